@@ -1,0 +1,5 @@
+// Faults, the meaning of a backing, and the two backings: an image and a joined pair.
+pub mod fault;
+pub mod image;
+pub mod pair;
+pub mod row;
