@@ -3,10 +3,10 @@ use Prim.Native.Nat.{ℕ}
 use mathlib.Core.Path.{_≡_, refl, sym, ap, _∙_}
 use mathlib.Core.List.{List, [], _∷_}
 use lib.ListN.{getD}
-use Rattle.backing.specs.declared.fault.Refusal.{Refusal}
-use Rattle.backing.specs.declared.fault.Refusal.the-variants.{ShortBacking, StatusBits, LockValue, UnknownKind, BadLevel, PinAlreadyThere, NoCycle, PowerSelected, PowerInCycle, OddLength, ShortAnswers, NoSuchPage, ShortBuffer, CycleRunning, PastRow, LongInput}
-use Rattle.backing.specs.declared.fault.Layer.{Layer}
-use Rattle.backing.specs.declared.fault.Layer.the-variants.{Making, Event, Capture, PageCopy, Backing, Program}
+use Rattle.backing.specs.declared.refusal.Refusal.{Refusal}
+use Rattle.backing.specs.declared.refusal.Refusal.the-variants.{ShortBacking, StatusBits, LockValue, UnknownKind, BadLevel, PinAlreadyThere, NoCycle, PowerSelected, PowerInCycle, OddLength, ShortAnswers, NoSuchPage, ShortBuffer, CycleRunning, PastRow, LongInput}
+use Rattle.backing.specs.declared.layer.Layer.{Layer}
+use Rattle.backing.specs.declared.layer.Layer.the-variants.{Making, Event, Capture, PageCopy, Backing, Program}
 use Rattle.backing.specs.Faults.{number, position, Only, Only-layer}
 
 -- what a map into the numbers tells apart, where some table gives the argument back

@@ -10,7 +10,7 @@ use Rattle.std.proofs.shelf.Lists.{length-take, length-map, getD-take, getD-map
 use Rattle.std.proofs.shelf.Results.{cases-weaker}
 use Rattle.std.specs.declared.result.Result.{Result}
 use Rattle.backing.specs.declared.fault.Fault.{Fault}
-use Rattle.backing.specs.declared.fault.Refusal.the-variants.{PastRow}
+use Rattle.backing.specs.declared.refusal.Refusal.the-variants.{PastRow}
 use Rattle.backing.specs.Faults.{number, position, raised, Shows}
 use Rattle.backing.specs.Rows.{capped, imaged, paired, Reads, Writes}
 

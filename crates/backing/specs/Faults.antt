@@ -1,10 +1,10 @@
 -- The sixteen refusals and the six layers by their numbers.
 use Prim.Native.Nat.{ℕ}
 use mathlib.Core.Path.{_≡_}
-use Rattle.backing.specs.declared.fault.Refusal.{Refusal}
-use Rattle.backing.specs.declared.fault.Refusal.the-variants.{ShortBacking, StatusBits, LockValue, UnknownKind, BadLevel, PinAlreadyThere, NoCycle, PowerSelected, PowerInCycle, OddLength, ShortAnswers, NoSuchPage, ShortBuffer, CycleRunning, PastRow, LongInput}
-use Rattle.backing.specs.declared.fault.Layer.{Layer}
-use Rattle.backing.specs.declared.fault.Layer.the-variants.{Making, Event, Capture, PageCopy, Backing, Program}
+use Rattle.backing.specs.declared.refusal.Refusal.{Refusal}
+use Rattle.backing.specs.declared.refusal.Refusal.the-variants.{ShortBacking, StatusBits, LockValue, UnknownKind, BadLevel, PinAlreadyThere, NoCycle, PowerSelected, PowerInCycle, OddLength, ShortAnswers, NoSuchPage, ShortBuffer, CycleRunning, PastRow, LongInput}
+use Rattle.backing.specs.declared.layer.Layer.{Layer}
+use Rattle.backing.specs.declared.layer.Layer.the-variants.{Making, Event, Capture, PageCopy, Backing, Program}
 use Rattle.backing.specs.declared.fault.Fault.{Fault}
 
 -- the number of a refusal

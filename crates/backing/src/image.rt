@@ -5,7 +5,7 @@ ghost use denote.Ref.{now as behind, name};
 ghost use Rattle.backing.specs.Rows.{imaged, Reads};
 ghost use Rattle.backing.specs.Made.{imaged-bytes};
 use super::fault::Fault;
-use super::fault::Refusal;
+use super::refusal::Refusal;
 use super::row::Backing;
 use super::row::PLACES;
 
@@ -16,7 +16,8 @@ pub struct Image<'a> {
 
 impl<'a> Image<'a> {
     pub fn new(bytes: &'a mut [u8]) -> Image<'a>
-        ensures { λ r. ⌜ behind (r .bytes) ≡ now (bytes .entry) ⌝ }
+        ensures value { λ r. ⌜ behind (r .bytes) ≡ now (bytes .entry) ⌝ }
+        ensures lent { λ r. ⌜ name (r .bytes) ≡ name (bytes .entry) ⌝ }
     {
         Image { bytes }
     }
@@ -25,7 +26,7 @@ impl<'a> Image<'a> {
     pub fn bytes(&self) -> &[u8]
         ensures { λ r. ⌜ now r ≡ behind (now (self .entry) .bytes) ⌝ }
     {
-        self.bytes
+        &*self.bytes
     }
 }
 

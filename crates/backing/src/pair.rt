@@ -4,7 +4,7 @@ ghost use mathlib.Core.List.{_++_};
 ghost use Rattle.backing.specs.Rows.{paired};
 ghost use Rattle.backing.specs.Made.{paired-bytes};
 use super::fault::Fault;
-use super::fault::Refusal;
+use super::refusal::Refusal;
 use super::row::Backing;
 use super::row::PLACES;
 
