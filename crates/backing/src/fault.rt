@@ -20,6 +20,10 @@ impl Fault {
     pub fn of(refusal: Refusal) -> Fault
         ensures { λ r. ⌜ r ≡ raised refusal 0 ⌝ }
     {
-        Fault { refusal, record: 0, layer: refusal.layer() }
+        Fault {
+            refusal,
+            record: 0,
+            layer: refusal.layer(),
+        }
     }
 }

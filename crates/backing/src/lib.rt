@@ -5,6 +5,5 @@ pub mod layer;
 pub mod pair;
 pub mod refusal;
 pub mod row;
-
 #[cfg(test)]
 mod tests;

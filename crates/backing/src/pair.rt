@@ -32,7 +32,11 @@ pub impl<A: Backing, B: Backing> Backing for Pair<A, B> as PairBacking {
 
     fn len(&self) -> usize {
         let n = self.a.len();
-        if n < PLACES { n + self.b.len().min(PLACES - n) } else { PLACES }
+        if n < PLACES {
+            n + self.b.len().min(PLACES - n)
+        } else {
+            PLACES
+        }
     }
 
     fn get(&self, place: usize) -> Result<u8, Fault> {
@@ -40,7 +44,11 @@ pub impl<A: Backing, B: Backing> Backing for Pair<A, B> as PairBacking {
             return Err(Fault::of(Refusal::PastRow));
         }
         let n = self.a.len();
-        if place < n { self.a.get(place) } else { self.b.get(place - n) }
+        if place < n {
+            self.a.get(place)
+        } else {
+            self.b.get(place - n)
+        }
     }
 
     fn put(&mut self, place: usize, byte: u8) -> Result<(), Fault> {
@@ -48,6 +56,10 @@ pub impl<A: Backing, B: Backing> Backing for Pair<A, B> as PairBacking {
             return Err(Fault::of(Refusal::PastRow));
         }
         let n = self.a.len();
-        if place < n { self.a.put(place, byte) } else { self.b.put(place - n, byte) }
+        if place < n {
+            self.a.put(place, byte)
+        } else {
+            self.b.put(place - n, byte)
+        }
     }
 }

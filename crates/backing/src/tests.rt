@@ -3,12 +3,12 @@ ghost use Rattle.backing.specs.Rows.{imaged, Writes};
 use super::fault::Fault;
 use super::fault::FaultDebug;
 use super::fault::FaultPartialEq;
-use super::layer::Layer;
-use super::refusal::Refusal;
 use super::image::Image;
 use super::image::ImageBacking;
+use super::layer::Layer;
 use super::pair::Pair;
 use super::pair::PairBacking;
+use super::refusal::Refusal;
 use super::row::Backing;
 use std::test::*;
 
@@ -20,7 +20,11 @@ fn stored(bytes: &mut [u8], place: usize, byte: u8) -> Result<(), Fault>
     image.put(place, byte)
 }
 
-const PAST: Fault = Fault { refusal: Refusal::PastRow, record: 0, layer: Layer::Backing };
+const PAST: Fault = Fault {
+    refusal: Refusal::PastRow,
+    record: 0,
+    layer: Layer::Backing,
+};
 
 #[test]
 fn empty_beside_nonempty() -> Result<(), Fail> {

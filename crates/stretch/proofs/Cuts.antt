@@ -63,7 +63,8 @@ cut-in (suc most) place (x ∷ xs) h =
       filled = (omega (arith, t, s .0), rest .filled);
       numbered = (refl, subst (λ (k : ℕ). Numbered (place + k) (parts-in most (place + n) (drop n (x ∷ xs)))) (sym t) (rest .numbered));
       formed = (front-formed (x ∷ xs) (omega arith), rest .formed);
-      ordered = ordered-more (record { kind = front (x ∷ xs) .0; first = place / 2; bytes = take n (x ∷ xs) }) most (place + n) (drop n (x ∷ xs)) (front-follows (x ∷ xs)) (rest .ordered) }
+      ordered = ordered-more (record { kind = front (x ∷ xs) .0; first = place / 2; bytes = take n (x ∷ xs) }) most (place + n) (drop n (x ∷ xs)) (front-follows (x ∷ xs)) (rest .ordered);
+    }
 
 pub cut-from : (place : ℕ) (xs : List ℕ) → Cut place xs (parts-from place xs)
 unfolding parts-from

@@ -47,19 +47,21 @@ front-open xs h p q = falls xs h p ∙ ap (λ b. cond b (selected, ahead 1 xs + 
 
 -- what holds of a first part in each of the four cases holds of it
 pub front-cases : (P : List ℕ → Kind × ℕ → Type 0) (xs : List ℕ)
-  → (length xs < 2 → P xs (lone, length xs))
-  → (2 ≤ length xs → 0 < ahead 0 xs → P xs (quiet, ahead 0 xs))
-  → (2 ≤ length xs → ahead 0 xs ≤ 0 → ahead 1 xs + 1 < length xs → P xs (selected, ahead 1 xs + 2))
-  → (2 ≤ length xs → ahead 0 xs ≤ 0 → length xs ≤ ahead 1 xs + 1 → P xs (opened, ahead 1 xs))
-  → P xs (front xs)
+    → (length xs < 2 → P xs (lone, length xs))
+    → (2 ≤ length xs → 0 < ahead 0 xs → P xs (quiet, ahead 0 xs))
+    → (2 ≤ length xs → ahead 0 xs ≤ 0 → ahead 1 xs + 1 < length xs → P xs (selected, ahead 1 xs + 2))
+    → (2 ≤ length xs → ahead 0 xs ≤ 0 → length xs ≤ ahead 1 xs + 1 → P xs (opened, ahead 1 xs))
+    → P xs (front xs)
 front-cases P xs l q s o = by-length (ltb (length xs) 2) refl
   where
     by-rise : (b : Bool) → ltb (ahead 1 xs + 1) (length xs) ≡ b → 2 ≤ length xs → ahead 0 xs ≤ 0 → P xs (front xs)
     by-rise true e h p = subst (P xs) (sym (front-selected xs h p (ltb-true _ _ e))) (s h p (ltb-true _ _ e))
     by-rise false e h p = subst (P xs) (sym (front-open xs h p (ltb-false _ _ e))) (o h p (ltb-false _ _ e))
+
     by-fall : (b : Bool) → ltb 0 (ahead 0 xs) ≡ b → 2 ≤ length xs → P xs (front xs)
     by-fall true e h = subst (P xs) (sym (front-quiet xs h (ltb-true _ _ e))) (q h (ltb-true _ _ e))
     by-fall false e h = by-rise (ltb (ahead 1 xs + 1) (length xs)) refl h (ltb-false _ _ e)
+
     by-length : (b : Bool) → ltb (length xs) 2 ≡ b → P xs (front xs)
     by-length true e = subst (P xs) (sym (front-lone xs (ltb-true _ _ e))) (l (ltb-true _ _ e))
     by-length false e = by-fall (ltb 0 (ahead 0 xs)) refl (ltb-false _ _ e)
@@ -109,15 +111,24 @@ front-formed xs =
     let o = passed 1 xs in
     front-cases Shaped xs
     (λ h some. length-take-le (length xs) xs (omega arith) ∙ omega arith)
-    (λ h p some. (z .0, length-take-le (ahead 0 xs) xs (omega (arith, z .1 .value, z .1 .within)) ∙ z .1 .value
-    , lacks-take 0 xs (ahead 0 xs) (z .0) (omega (arith, z .1 .value)) (z .1 .lacks)))
-    (λ h p q some. (o .0, length-take-le (ahead 1 xs + 2) xs (omega arith) ∙ omega (arith, o .1 .value)
-    , at-in-take 0 xs (ahead 1 xs + 2) 0 (omega arith) (falls-first xs h p)
-    , lacks-take 1 xs (ahead 1 xs + 2) (o .0) (omega (arith, o .1 .value)) (o .1 .lacks)
-    , at-in-take 1 xs (ahead 1 xs + 2) (o .0) (omega (arith, o .1 .value)) (o .1 .found (omega (arith, o .1 .value)))))
-    (λ h p q some. (o .0, length-take-le (ahead 1 xs) xs (omega (arith, o .1 .value, o .1 .within)) ∙ o .1 .value
-    , at-in-take 0 xs (ahead 1 xs) 0 (omega (arith, o .1 .value)) (falls-first xs h p)
-    , lacks-take 1 xs (ahead 1 xs) (o .0) (omega (arith, o .1 .value)) (o .1 .lacks)))
+    (λ h p some. (
+      z .0,
+      length-take-le (ahead 0 xs) xs (omega (arith, z .1 .value, z .1 .within)) ∙ z .1 .value,
+      lacks-take 0 xs (ahead 0 xs) (z .0) (omega (arith, z .1 .value)) (z .1 .lacks),
+    ))
+    (λ h p q some. (
+      o .0,
+      length-take-le (ahead 1 xs + 2) xs (omega arith) ∙ omega (arith, o .1 .value),
+      at-in-take 0 xs (ahead 1 xs + 2) 0 (omega arith) (falls-first xs h p),
+      lacks-take 1 xs (ahead 1 xs + 2) (o .0) (omega (arith, o .1 .value)) (o .1 .lacks),
+      at-in-take 1 xs (ahead 1 xs + 2) (o .0) (omega (arith, o .1 .value)) (o .1 .found (omega (arith, o .1 .value))),
+    ))
+    (λ h p q some. (
+      o .0,
+      length-take-le (ahead 1 xs) xs (omega (arith, o .1 .value, o .1 .within)) ∙ o .1 .value,
+      at-in-take 0 xs (ahead 1 xs) 0 (omega (arith, o .1 .value)) (falls-first xs h p),
+      lacks-take 1 xs (ahead 1 xs) (o .0) (omega (arith, o .1 .value)) (o .1 .lacks),
+    ))
 
 -- a first part is not quiet where no record is ahead of a fall
 abbrev Begins-quiet : List ℕ → Kind × ℕ → Type 0

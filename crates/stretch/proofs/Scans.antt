@@ -1,12 +1,10 @@
 -- The search for a record that moves S: one step of it, and what it passes.
 use Prim.Native.Nat.{ℕ, zero, suc, _+_, _<_, _≤_}
 use mathlib.Core.Path.{_≡_, refl, sym, ap, subst, _∙_}
-use mathlib.Core.Logic.{_≢_}
 use mathlib.Core.List.{List, [], _∷_}
-use mathlib.Core.Bool.{Bool, true, false, cond, _&&_, and-false}
+use mathlib.Core.Bool.{Bool, true, false, cond}
 use native.Mathlib.Omega.{arith}
-use borrow.Author.Tests.{eq-eqb, ne-eqb, both-ways}
-use lib.Dec.{eqb}
+use borrow.Author.Tests.{both-ways}
 use lib.ListN.{length, getD, drop}
 use Rattle.std.proofs.shelf.Lists.{drop-more, length-drop}
 use Rattle.stretch.specs.Parts.{ahead, moves}
@@ -23,11 +21,8 @@ at-two : (level : ℕ) (xs : List ℕ) (i : ℕ) → i + 1 < length xs → ahead
 unfolding ahead
 at-two level xs i h = ap (ahead level) (drop-two xs i h)
 
-pub ahead-found : (level : ℕ) (xs : List ℕ) (i : ℕ) → i + 1 < length xs → getD xs i 0 ≡ 0 → getD xs (i + 1) 0 ≡ level → ahead level (drop i xs) ≡ 0
-ahead-found level xs i h p q =
-    at-two level xs i h
-    ∙ ap (λ b. cond (b && eqb (getD xs (i + 1) 0) level) 0 (2 + ahead level (drop (i + 2) xs))) (eq-eqb (getD xs i 0) 0 p)
-    ∙ ap (λ b. cond b 0 (2 + ahead level (drop (i + 2) xs))) (eq-eqb (getD xs (i + 1) 0) level q)
+pub ahead-found : (level : ℕ) (xs : List ℕ) (i : ℕ) → i + 1 < length xs → moves level (getD xs i 0) (getD xs (i + 1) 0) ≡ true → ahead level (drop i xs) ≡ 0
+ahead-found level xs i h e = at-two level xs i h ∙ ap (λ b. cond b 0 (2 + ahead level (drop (i + 2) xs))) e
 
 pub ahead-passed : (level : ℕ) (xs : List ℕ) (i : ℕ) → i + 1 < length xs → moves level (getD xs i 0) (getD xs (i + 1) 0) ≡ false → ahead level (drop i xs) ≡ 2 + ahead level (drop (i + 2) xs)
 ahead-passed level xs i h e = at-two level xs i h ∙ ap (λ b. cond b 0 (2 + ahead level (drop (i + 2) xs))) e
@@ -40,12 +35,6 @@ ahead-short level (y ∷ z ∷ ys) h = absurd (omega arith)
 
 pub ahead-end : (level : ℕ) (xs : List ℕ) (i : ℕ) → length xs ≤ i + 1 → ahead level (drop i xs) ≡ 0
 ahead-end level xs i h = ahead-short level (drop i xs) (omega (arith, length-drop i xs))
-
-pub other-kind : (level k l : ℕ) → k ≢ 0 → moves level k l ≡ false
-other-kind level k l h = ap (λ b. b && eqb l level) (ne-eqb k 0 h)
-
-pub other-level : (level k l : ℕ) → l ≢ level → moves level k l ≡ false
-other-level level k l h = ap (λ b. eqb k 0 && b) (ne-eqb l level h) ∙ and-false (eqb k 0)
 
 -- what a search from the front comes to: n records are passed, and the next one, if there is one, moves S to the level
 pub record Passed (level : ℕ) (xs : List ℕ) (n : ℕ) : Type 0 where
@@ -77,18 +66,24 @@ lacks-on level k l xs n e h (suc i) small a =
 
 passed-on : (level k l : ℕ) (xs : List ℕ) (b : Bool) → moves level k l ≡ b → (n : ℕ) × Passed level xs n → (n : ℕ) × Passed level (k ∷ l ∷ xs) n
 unfolding ahead
-passed-on level k l xs true e p =
-    (0, record {
-      value = ap (λ b. cond b 0 (2 + ahead level xs)) e;
-      within = omega arith;
-      lacks = λ i small a. absurd (omega arith);
-      found = λ _. e })
-passed-on level k l xs false e p =
-    (p .0 + 1, record {
-      value = ap (λ b. cond b 0 (2 + ahead level xs)) e ∙ omega (arith, p .1 .value);
-      within = omega (arith, p .1 .within);
-      lacks = lacks-on level k l xs (p .0) e (p .1 .lacks);
-      found = λ more. at-on level k l xs (p .0) (p .1 .found (omega arith)) })
+passed-on level k l xs true e p = (
+  0,
+  record {
+    value = ap (λ b. cond b 0 (2 + ahead level xs)) e;
+    within = omega arith;
+    lacks = λ i small a. absurd (omega arith);
+    found = λ _. e;
+  },
+)
+passed-on level k l xs false e p = (
+  p .0 + 1,
+  record {
+    value = ap (λ b. cond b 0 (2 + ahead level xs)) e ∙ omega (arith, p .1 .value);
+    within = omega (arith, p .1 .within);
+    lacks = lacks-on level k l xs (p .0) e (p .1 .lacks);
+    found = λ more. at-on level k l xs (p .0) (p .1 .found (omega arith));
+  },
+)
 
 pub passed : (level : ℕ) (xs : List ℕ) → (n : ℕ) × Passed level xs n
 unfolding ahead

@@ -2,6 +2,5 @@
 pub mod part;
 pub mod reader;
 mod scan;
-
 #[cfg(test)]
 mod tests;

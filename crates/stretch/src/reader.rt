@@ -67,6 +67,9 @@ pub impl<'a> Iterator for Reader<'a> as ReaderIterator {
         }
         let stretch = first_part(&capture[place..]);
         self.place = place + stretch.bytes().len();
-        Some(Placed { first: place / 2, stretch })
+        Some(Placed {
+            first: place / 2,
+            stretch,
+        })
     }
 }

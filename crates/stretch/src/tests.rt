@@ -19,7 +19,10 @@ fn expect(capture: &[u8], rows: &[(u8, usize, usize)]) -> Result<(), Fail> {
     let mut reader = Reader::new(capture);
     for row in rows {
         let part = reader.next().ok_or("a part more")?;
-        check_eq((letter(part.stretch), part.first, part.stretch.bytes().len()), *row)?;
+        check_eq(
+            (letter(part.stretch), part.first, part.stretch.bytes().len()),
+            *row,
+        )?;
     }
     check(reader.next().is_none())?;
     check(reader.next().is_none())
@@ -35,6 +38,8 @@ fn parts() -> Result<(), Fail> {
     expect(&[0, 0, 0, 1, 0, 0, 0, 1], &[(b's', 0, 4), (b's', 2, 4)]).note("0,1 and at once 0,0")?;
     expect(&[4, 0, 0, 0, 1, 1], &[(b'q', 0, 2), (b'o', 1, 4)]).note("open at the end")?;
     expect(&[0, 0, 1, 1, 0], &[(b'o', 0, 4), (b'l', 2, 1)]).note("open and an odd byte")?;
-    expect(&[9, 9, 0, 2, 0, 0, 7, 7, 0, 1, 9, 0, 1], &[(b'q', 0, 4), (b's', 2, 6), (b'q', 5, 2), (b'l', 6, 1)])
-        .note("records that mean nothing")
+    expect(
+        &[9, 9, 0, 2, 0, 0, 7, 7, 0, 1, 9, 0, 1],
+        &[(b'q', 0, 4), (b's', 2, 6), (b'q', 5, 2), (b'l', 6, 1)],
+    ).note("records that mean nothing")
 }

@@ -8,4 +8,5 @@ returns c =
     record {
       buffer = search needs;
       wrote = search needs;
-      short = last-short (c .args .parts) (c .args .records) (omega arith) (omega arith) }
+      short = last-short (c .args .parts) (c .args .records) (omega arith) (omega arith);
+    }

@@ -12,4 +12,5 @@ returns c =
     record {
       buffer = c .row .ensures .buffer ∙ ap (λ t. overlaid (c .args .out .now) t) e;
       wrote = c .row .ensures .wrote ∙ ap (λ t. min (length t) (length (c .args .out .now))) e;
-      short = omega (arith, ap length e, ap length (c .word .ensures), word-short (c .args .part .stretch), c .row .ensures .short) }
+      short = omega (arith, ap length e, ap length (c .word .ensures), word-short (c .args .part .stretch), c .row .ensures .short);
+    }

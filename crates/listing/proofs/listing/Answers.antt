@@ -9,9 +9,10 @@ add-parts c =
     omega (arith, c .loop-part .inv .1, ap length (c .in-Some .ensures tt .steps), few 0 (c .args .capture .now) _ (c .new-part-items .ensures .cut))
 
 pub loop-part-again : need.loop-part-again
-loop-part-again c =
-    ( lines-more _ _ _ _ _ _ (c .in-Some .ensures tt .steps) (c .in-Continue-push-line .ensures tt) (c .loop-part .inv .0)
-    , count-more _ _ _ _ _ (c .in-Some .ensures tt .steps) (c .loop-part .inv .1) )
+loop-part-again c = (
+  lines-more _ _ _ _ _ _ (c .in-Some .ensures tt .steps) (c .in-Continue-push-line .ensures tt) (c .loop-part .inv .0),
+  count-more _ _ _ _ _ (c .in-Some .ensures tt .steps) (c .loop-part .inv .1),
+)
 
 pub returns : need.returns
 returns c =

@@ -11,4 +11,4 @@ returns c =
     let w = c .closing-n .ensures in
     c .extend-from-slice .ensures .items
     ∙ pushed-text (isOk (c .extend-from-slice .result)) (vec-items (c .args .out .now)) (replicate 64 0) (c .closing-n .last .out)
-      (last-line (c .args .parts) (c .args .records)) (c .closing-n .result) refl (w .buffer) (w .wrote) (w .short)
+    (last-line (c .args .parts) (c .args .records)) (c .closing-n .result) refl (w .buffer) (w .wrote) (w .short)

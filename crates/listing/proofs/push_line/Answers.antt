@@ -12,4 +12,4 @@ returns c =
     let w = c .line-n .ensures in
     c .extend-from-slice .ensures .items
     ∙ pushed-text (isOk (c .extend-from-slice .result)) (vec-items (c .args .out .now)) (replicate 64 0) (c .line-n .last .out)
-      (line-of (shown (c .args .part))) (c .line-n .result) refl (w .buffer) (w .wrote) (w .short)
+    (line-of (shown (c .args .part))) (c .line-n .result) refl (w .buffer) (w .wrote) (w .short)

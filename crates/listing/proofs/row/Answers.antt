@@ -8,4 +8,5 @@ returns c =
     record {
       buffer = search needs;
       wrote = search needs;
-      short = row-short (c .args .word .now) (c .args .first) (c .args .count) (omega arith) (omega arith) }
+      short = row-short (c .args .word .now) (c .args .first) (c .args .count) (omega arith) (omega arith);
+    }

@@ -8,16 +8,19 @@ pub returns-then-place-ge-PLACES : need.returns-then-place-ge-PLACES
 returns-then-place-ge-PLACES g c =
     record {
       row = (past-paired (g .A·Backing .row (c .args .self .now .a)) (g .B·Backing .row (c .args .self .now .b)) _ (c .if-place-ge-PLACES .taken), past-shows (c .of .result) (c .of .ensures), refl);
-      held = refl }
+      held = refl;
+    }
 
 pub returns-then-place-n : need.returns-then-place-n
 returns-then-place-n g c =
     record {
       row = writes-left _ _ _ _ _ (c .put .result) (omega arith) (omega arith) (c .put .ensures .row);
-      held = ap (λ ns. ns ++ g .B·Backing .held (c .args .self .now .b)) (c .put .ensures .held) }
+      held = ap (λ ns. ns ++ g .B·Backing .held (c .args .self .now .b)) (c .put .ensures .held);
+    }
 
 pub returns-else-place-n : need.returns-else-place-n
 returns-else-place-n g c =
     record {
       row = writes-right _ _ _ _ _ _ (c .put-else-place-n .result) (omega arith) (sym (c .len-n .ensures)) (c .if-place-n .left) (c .put-else-place-n .ensures .row);
-      held = ap (λ ns. g .A·Backing .held (c .args .self .now .a) ++ ns) (c .put-else-place-n .ensures .held) }
+      held = ap (λ ns. g .A·Backing .held (c .args .self .now .a) ++ ns) (c .put-else-place-n .ensures .held);
+    }

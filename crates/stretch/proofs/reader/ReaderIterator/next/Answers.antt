@@ -12,7 +12,8 @@ pub returns-then-place-capture : need.returns-then-place-capture
 returns-then-place-capture c =
     record {
       steps = (parts-none _ _ (omega (arith, length-drop (c .args .self .now .place) (c .args .self .now .capture .now))), refl);
-      goes = search needs }
+      goes = search needs;
+    }
 
 pub returns : need.returns
 returns c =
@@ -24,4 +25,5 @@ returns c =
     let w = handed-within place xs _ (shown-as (place / 2) (c .first-part-stretch .result)) _ e (c .if-place-capture .left) q l in
     record {
       steps = handed place xs _ (shown-as (place / 2) (c .first-part-stretch .result)) _ e (c .if-place-capture .left) q l;
-      goes = search needs }
+      goes = search needs;
+    }
