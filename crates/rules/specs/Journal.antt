@@ -16,7 +16,7 @@ use Rattle.rules.specs.declared.state.Event.the-variants.{Select, Clock, Data,
 use Rattle.rules.specs.declared.state.Instruction.{Instruction}
 use Rattle.rules.specs.declared.state.Instruction.the-variants.{Wren, Wrdi, Rdsr, Wrsr, Read, Write, RdidRdls, WridLid, Rduid, Unknown}
 use Rattle.rules.specs.Shape.{Shape, array-len, ident-at, unique-at, status-at, lock-at, cell-count}
-use Rattle.rules.specs.Tables.{to-number, decoded, refused-event, unfit, refused-capture, kept, named, accepted, a10, page-open, status-open, ident-open, locks, page-of, status-byte, bit-of, level-of}
+use Rattle.rules.specs.Tables.{to-number, decoded, refused-event, unfit, refused-capture, kept, named, accepted, a10, page-open, status-open, ident-open, locks, page-of, status-byte, bit-of, level-of, or}
 use Rattle.rules.specs.Calls.{Call, event, capture, copy}
 
 -- ---- entries, the latest first
@@ -48,10 +48,6 @@ cycle-runs (wrote place bytes ∷ es) = true
 abbrev pub put-at : ℕ → List (Option ℕ) → ℕ → Option ℕ
 put-at place bytes i = elim (leb place i) [ true ↦ getD bytes (i - place) None | false ↦ None ]
 
-abbrev pub else : Option ℕ → ℕ → ℕ
-else None x = x
-else (Some y) x = y
-
 -- the byte of cell i: that of the last counting write there with a cycle end after it, else the birth byte
 abbrev pub byte-of : List ℕ → ℕ → (ended : Bool) → List Entry → ℕ
 byte-of birth i ended [] = getD birth i 0
@@ -59,7 +55,7 @@ byte-of birth i ended (wren-done ∷ es) = byte-of birth i ended es
 byte-of birth i ended (wrdi-done ∷ es) = byte-of birth i ended es
 byte-of birth i ended (cycle-end ∷ es) = byte-of birth i true es
 byte-of birth i ended (power-cycle ∷ es) = byte-of birth i ended es
-byte-of birth i true (wrote place bytes ∷ es) = else (put-at place bytes i) (byte-of birth i true es)
+byte-of birth i true (wrote place bytes ∷ es) = or (put-at place bytes i) (byte-of birth i true es)
 byte-of birth i false (wrote place bytes ∷ es) = byte-of birth i false es
 
 -- ---- the bits of a stretch

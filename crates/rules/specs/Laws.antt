@@ -72,7 +72,7 @@ pub record Cells (p : Shape) (birth : List ℕ) (v : View) (j : Journal) : Type 
 
 abbrev pub Cells-stand : Type 0
 Cells-stand =
-    (p : Shape) → Lawful p → (birth : List ℕ) → Bytes birth → (h : List Call) →
+    (p : Shape) → Lawful p → (birth : List ℕ) (h : List Call) →
     Cells p birth (chip-after p birth h) (journal-after p birth h)
 
 -- a chip born unfit answers its number to every call, and no call changes it

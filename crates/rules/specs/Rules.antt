@@ -32,7 +32,7 @@ use Rattle.rules.specs.declared.state.Cycle.the-variants.{Idle, Busy}
 use Rattle.rules.specs.declared.state.Phase.{Phase}
 use Rattle.rules.specs.declared.state.Phase.the-variants.{Deselected, Instruction as Instructing, Ignored, Enable, Disable, Status, Address, Output, Input}
 use Rattle.rules.specs.Shape.{Shape, array-len, ident-at, unique-at, status-at, lock-at, cell-count}
-use Rattle.rules.specs.Tables.{to-number, decoded, refused-event, kept, named, accepted, a10, page-open, status-open, ident-open, locks, page-of, status-byte, bit-of, level-of}
+use Rattle.rules.specs.Tables.{to-number, decoded, refused-event, kept, named, accepted, a10, page-open, status-open, ident-open, locks, page-of, status-byte, bit-of, level-of, or}
 
 -- what a chip shows: its levels, WEL, the cycle with its pending write, the stretch, the output side, the part's cells
 pub record View : Type 0 where
@@ -172,10 +172,6 @@ abbrev pub one-byte : Got → Bool
 one-byte Nothing = false
 one-byte One = true
 one-byte More = false
-
-abbrev pub or : Option ℕ → ℕ → ℕ
-or None x = x
-or (Some y) x = y
 
 -- the byte at a page's first place
 abbrev pub head-byte : List (Option ℕ) → ℕ

@@ -153,3 +153,8 @@ bit-of b k = b / 2 ^ (7 - k) % 2
 
 abbrev pub level-of : ℕ → Level
 level-of bit = elim (eqb bit 0) [ true ↦ Low | false ↦ High ]
+
+-- the byte that is put, where one is
+abbrev pub or : Option ℕ → ℕ → ℕ
+or None x = x
+or (Some y) x = y
