@@ -2,17 +2,17 @@
 use Prim.Native.Nat.{ℕ, zero, suc, _+_, _-_, _*_, _/_, _%_, _<_, _≤_, min}
 use mathlib.Core.Path.{_≡_, refl, sym, ap, _∙_, subst}
 use mathlib.Core.Bool.{Bool, true, false}
-use mathlib.Core.List.{List, [], _∷_}
+use mathlib.Core.List.{List, [], _∷_, _++_}
 use mathlib.Core.Logic.{_↔_, _⊎_, inl, inr}
 use native.Mathlib.Omega.{arith}
-use lib.ListN.{length, getD, take, length-take}
+use lib.ListN.{length, getD, take, drop, length-take}
 use lib.Dec.{eqb, ltb, lit<}
 use Rattle.std.specs.declared.option.Option.{Option}
 use Rattle.std.specs.declared.option.Option.the-variants.{Some, None}
 use Rattle.std.specs.declared.result.Result.{Result}
 use Rattle.std.specs.declared.result.Result.the-variants.{Ok, Err}
 use Rattle.std.proofs.shelf.Tests.{eq-eqb, le-ltb, cases-lt, both-ways}
-use Rattle.std.proofs.shelf.Lists.{getD-take, getD-past, ext-getD, length-take-le}
+use Rattle.std.proofs.shelf.Lists.{getD-take, getD-past, ext-getD, length-append, length-drop, length-take-le, drop-all, drop-at}
 use Rattle.backing.specs.Faults.{raised}
 use Rattle.backing.specs.Rows.{Bytes}
 use Rattle.backing.specs.declared.refusal.Refusal.{Refusal}
@@ -72,13 +72,36 @@ answers-stand p lw birth h xs = by (unfit p (take (cell-count p) birth)) refl
 
 -- ---- cells
 
+-- a row whose front has as many cells as at birth
+row-length : (p : Shape) (birth cells : List ℕ) → length cells ≡ length (take (cell-count p) birth) → length (cells ++ drop (cell-count p) birth) ≡ length birth
+row-length p birth cells e =
+    length-append cells (drop (cell-count p) birth)
+    ∙ sum (length cells) (length (take (cell-count p) birth)) (cell-count p) (length birth) (length (drop (cell-count p) birth)) e (length-take (cell-count p) birth) (length-drop (cell-count p) birth)
+  where
+    sum : (a b n m d : ℕ) → a ≡ b → b ≡ min n m → d ≡ m - n → a + d ≡ m
+    sum a b n m d e f g = omega arith
+
+row-past : (p : Shape) (birth cells : List ℕ) → length cells ≡ length (take (cell-count p) birth) → drop (cell-count p) (cells ++ drop (cell-count p) birth) ≡ drop (cell-count p) birth
+row-past p birth cells e =
+    elim (cases-lt (length birth) (cell-count p))
+    [ inl short ↦
+        drop-all (cell-count p) (cells ++ drop (cell-count p) birth) (under (length (cells ++ drop (cell-count p) birth)) (length birth) (cell-count p) (row-length p birth cells e) short)
+        ∙ sym (drop-all (cell-count p) birth (omega arith))
+    | inr long ↦ drop-at cells (drop (cell-count p) birth) (cell-count p) (e ∙ length-take-le (cell-count p) birth long) ]
+  where
+    under : (a b n : ℕ) → a ≡ b → b < n → a ≤ n
+    under a b n e h = omega arith
+
 fit-cells : (p : Shape) (birth : List ℕ) → unfit p (take (cell-count p) birth) ≡ None → (j : Journal) (v : View) → Stands p birth j v → Cells p birth v j
 fit-cells p birth fit j v s = by (s .tie) (stays-fit p birth j v fit s)
   where
     by : {j : Journal} {v : View} → Tracks p birth j v → unfit p (v .cells) ≡ None → Cells p birth v j
     by (tracks ft m) f =
         let long : cell-count p ≤ length (take (cell-count p) birth) = fit-length p (take (cell-count p) birth) fit in
-        record { count = m .len-is ∙ whole (cell-count p) (length birth) (length (take (cell-count p) birth)) (length-take (cell-count p) birth) long;
+        let count = m .len-is ∙ whole (cell-count p) (length birth) (length (take (cell-count p) birth)) (length-take (cell-count p) birth) long in
+        record { count = count;
+          len = row-length p birth _ count;
+          past = row-past p birth _ count;
           bytes = λ i h. m .now-is i (subst (λ n. i < n) (m .len-is) h);
           fitness = f ∙ sym fit }
       where
@@ -87,7 +110,7 @@ fit-cells p birth fit j v s = by (s .tie) (stays-fit p birth j v fit s)
 
 born-cells : (p : Shape) (birth : List ℕ) → Cells p birth (born p birth) blank
 born-cells p birth =
-    record { count = refl; bytes = λ i h. getD-take (cell-count p) birth i 0 (under i (cell-count p) (length birth) (length (take (cell-count p) birth)) (length-take (cell-count p) birth) h); fitness = refl }
+    record { count = refl; len = row-length p birth (take (cell-count p) birth) refl; past = row-past p birth (take (cell-count p) birth) refl; bytes = λ i h. getD-take (cell-count p) birth i 0 (under i (cell-count p) (length birth) (length (take (cell-count p) birth)) (length-take (cell-count p) birth) h); fitness = refl }
   where
     under : (i a b c : ℕ) → c ≡ min a b → i < c → i < a
     under i a b c e h = omega arith

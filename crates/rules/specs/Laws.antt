@@ -3,9 +3,9 @@ use Prim.Native.Nat.{ℕ, _+_, _*_, _<_}
 use mathlib.Core.Path.{_≡_}
 use mathlib.Core.Logic.{_↔_}
 use mathlib.Core.Bool.{Bool, true, _&&_}
-use mathlib.Core.List.{List, [], _∷_}
+use mathlib.Core.List.{List, [], _∷_, _++_}
 use lib.Dec.{T, ltb}
-use lib.ListN.{length, getD, take}
+use lib.ListN.{length, getD, take, drop}
 use Rattle.std.specs.declared.option.Option.{Option}
 use Rattle.std.specs.declared.option.Option.the-variants.{Some, None}
 use Rattle.std.specs.declared.result.Result.{Result}
@@ -64,9 +64,16 @@ Answers-stand =
     (p : Shape) → Lawful p → (birth : List ℕ) (h : List Call) (xs : List Action) →
     answers p (chip-after p birth h) xs ≡ journal-answers p birth (journal-after p birth h) xs
 
--- cells: after every history they are the journal's; their number stays, and so does the chip's fitness
+-- the row of a chip's backing: its part's cells, and past them what stood there at birth
+abbrev pub row-of : Shape → List ℕ → View → List ℕ
+row-of p birth v = v .cells ++ drop (cell-count p) birth
+
+-- cells: after every history they are the journal's; their number stays, the row's length, what lies past the part, and
+-- the chip's fitness
 pub record Cells (p : Shape) (birth : List ℕ) (v : View) (j : Journal) : Type 0 where
   pub count : length (v .cells) ≡ length (take (cell-count p) birth)
+  pub len : length (row-of p birth v) ≡ length birth
+  pub past : drop (cell-count p) (row-of p birth v) ≡ drop (cell-count p) birth
   pub bytes : (i : ℕ) → i < length (v .cells) → getD (v .cells) i 0 ≡ cell birth j i
   pub fitness : unfit p (v .cells) ≡ unfit p (take (cell-count p) birth)
 
