@@ -1,3 +1,2 @@
-// The rules of the chip: its finite state, what its bits come to, and the laws over whole runs.
-pub mod laws;
+// The rules of the chip: its finite state, and what events make of it.
 pub mod state;

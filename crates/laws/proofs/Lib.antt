@@ -1,0 +1,11 @@
+pub mod Bits
+pub mod Regions
+pub mod Keeps
+pub mod Outputs
+pub mod Moves
+pub mod Steps
+pub mod Sound
+pub mod Plain
+pub mod Tell
+pub mod Runs
+pub mod Main
