@@ -1,2 +1,10 @@
-// The rules of the chip: its finite state, and what events make of it.
+pub mod close;
+pub mod decode;
+pub mod ident;
+pub mod instruct;
+pub mod latch;
+pub mod page;
+pub mod query;
+pub mod register;
+pub mod shift;
 pub mod state;

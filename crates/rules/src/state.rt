@@ -63,6 +63,13 @@ pub enum Target {
     Lock,
 }
 
+// An identification page by its length: 128 or 256 bytes.
+#[derive(Clone, Copy)]
+pub enum IdentPage {
+    Short,
+    Long,
+}
+
 // Whole data bytes so far.
 #[derive(Clone, Copy)]
 pub enum Got {
