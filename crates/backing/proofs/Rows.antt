@@ -4,15 +4,16 @@ use mathlib.Core.Path.{_≡_, refl, sym, ap, _∙_}
 use mathlib.Core.List.{List, [], _∷_, _++_, map}
 use native.Mathlib.Nat.{mod-eq-of-lt}
 use native.Mathlib.Omega.{arith}
-use lib.ListN.{length, getD, set, take, length-append, length-set}
-use lib.Seq.{take-set-lt}
+use lib.ListN.{length, getD, set, take, drop, length-append, length-set}
+use lib.Seq.{take-set-lt, drop-set-lt}
 use Rattle.std.proofs.shelf.Lists.{length-take, length-map, getD-take, getD-map, map-set, set-append-left, set-append-right, getD-append-left, getD-append-right}
 use Rattle.std.proofs.shelf.Results.{cases-weaker}
 use Rattle.std.specs.declared.result.Result.{Result}
+use Rattle.std.specs.declared.result.Result.the-variants.{Ok, Err}
 use Rattle.backing.specs.declared.fault.Fault.{Fault}
 use Rattle.backing.specs.declared.refusal.Refusal.the-variants.{PastRow}
 use Rattle.backing.specs.Faults.{number, position, raised, Shows}
-use Rattle.backing.specs.Rows.{capped, imaged, paired, Reads, Writes}
+use Rattle.backing.specs.Rows.{capped, imaged, beyond, paired, Reads, Writes}
 
 pub past-shows : (e : Fault) → e ≡ raised PastRow 0 → Shows 15 5 0 e
 past-shows e q = (ap (λ f. number (f .refusal)) q, ap (λ f. position (f .layer)) q, ap (λ f. f .«record») q)
@@ -33,6 +34,10 @@ set-imaged xs i b h small =
     ap (map (λ b. b % 256)) (take-set-lt 1048576 xs i b h)
     ∙ map-set (λ b. b % 256) (take 1048576 xs) i b
     ∙ ap (λ v. set (map (λ b. b % 256) (take 1048576 xs)) i v) (mod-eq-of-lt small)
+
+pub set-beyond : (xs : List ℕ) (i b : ℕ) → i < 1048576 → beyond (set xs i b) ≡ beyond xs
+unfolding beyond
+set-beyond xs i b h = drop-set-lt 1048576 xs i b h
 
 pub length-paired : (xs ys : List ℕ) → length (paired xs ys) ≡ min 1048576 (length xs + length ys)
 unfolding capped
@@ -78,6 +83,15 @@ writes-right xs ys ys′ n i b r h e l W =
     cases-weaker r W
     (λ _ p. (omega (arith, length-paired xs ys), ap (λ zs. paired xs zs) (p .1) ∙ set-right xs ys n i b h e l))
     (λ f p. (omega (arith, length-paired xs ys), p .1, ap (λ zs. paired xs zs) (p .2)))
+
+-- a put on one side of a pair, below the cap, leaves what lies past it
+pub past-left : (xs xs′ ys : List ℕ) (i b : ℕ) (r : Result (Unit {0}) Fault) → i < 1048576 → i < length xs → Writes xs xs′ i b r → beyond (xs′ ++ ys) ≡ beyond (xs ++ ys)
+past-left xs xs′ ys i b (Ok u) h l W = ap (λ zs. beyond (zs ++ ys)) (W .1) ∙ ap beyond (sym (set-append-left xs ys i b l)) ∙ set-beyond (xs ++ ys) i b h
+past-left xs xs′ ys i b (Err e) h l W = ap (λ zs. beyond (zs ++ ys)) (W .2)
+
+pub past-right : (xs ys ys′ : List ℕ) (n i b : ℕ) (r : Result (Unit {0}) Fault) → i < 1048576 → length xs ≡ n → n ≤ i → Writes ys ys′ (i - n) b r → beyond (xs ++ ys′) ≡ beyond (xs ++ ys)
+past-right xs ys ys′ n i b (Ok u) h e l W = ap (λ zs. beyond (xs ++ zs)) (W .1) ∙ ap beyond (sym (set-append-right xs ys n i b e l)) ∙ set-beyond (xs ++ ys) i b h
+past-right xs ys ys′ n i b (Err q) h e l W = ap (λ zs. beyond (xs ++ zs)) (W .2)
 
 -- past the cap a pair has no place
 pub past-paired : (xs ys : List ℕ) (i : ℕ) → 1048576 ≤ i → length (paired xs ys) ≤ i

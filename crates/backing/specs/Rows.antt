@@ -2,7 +2,7 @@
 use Prim.Native.Nat.{ℕ, _<_, _≤_, _%_}
 use mathlib.Core.List.{List, map, _++_}
 use mathlib.Core.Path.{_≡_}
-use lib.ListN.{length, getD, set, take}
+use lib.ListN.{length, getD, set, take, drop}
 use Rattle.std.specs.declared.result.Result.{Result}
 use Rattle.std.specs.Results.{Cases}
 use Rattle.backing.specs.Faults.{Shows}
@@ -19,6 +19,10 @@ capped xs = take 1048576 xs
 -- the row of an image: the remainder is the byte itself wherever one is read
 unfoldable pub imaged : List ℕ → List ℕ
 imaged xs = map (λ b. b % 256) (take 1048576 xs)
+
+-- the places past them
+unfoldable pub beyond : List ℕ → List ℕ
+beyond xs = drop 1048576 xs
 
 -- the row of a pair: its two rows end to end
 abbrev pub paired : List ℕ → List ℕ → List ℕ

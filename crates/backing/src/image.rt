@@ -2,7 +2,7 @@
 ghost use mathlib.Core.Path.{_≡_};
 ghost use mathlib.Core.List.{[], _∷_};
 ghost use denote.Ref.{now as behind, name};
-ghost use Rattle.backing.specs.Rows.{imaged, Reads};
+ghost use Rattle.backing.specs.Rows.{imaged, beyond, Reads};
 ghost use Rattle.backing.specs.Made.{imaged-bytes};
 use super::fault::Fault;
 use super::refusal::Refusal;
@@ -44,6 +44,8 @@ pub impl Backing for Image<'_> as ImageBacking {
     ghost row = { λ s. imaged (behind (s .bytes)) };
 
     ghost bytes = { λ s. imaged-bytes (behind (s .bytes)) };
+
+    ghost past = { λ s. beyond (behind (s .bytes)) };
 
     ghost held = { λ s. name (s .bytes) ∷ [] };
 

@@ -1,7 +1,7 @@
 // Two backings end to end.
 ghost use mathlib.Core.Path.{_≡_};
 ghost use mathlib.Core.List.{_++_};
-ghost use Rattle.backing.specs.Rows.{paired};
+ghost use Rattle.backing.specs.Rows.{paired, beyond};
 ghost use Rattle.backing.specs.Made.{paired-bytes};
 use super::fault::Fault;
 use super::refusal::Refusal;
@@ -27,6 +27,8 @@ pub impl<A: Backing, B: Backing> Backing for Pair<A, B> as PairBacking {
     ghost row = { λ s. paired (A·Backing .row (s .a)) (B·Backing .row (s .b)) };
 
     ghost bytes = { λ s. paired-bytes (A·Backing .row (s .a)) (B·Backing .row (s .b)) (A·Backing .bytes (s .a)) (B·Backing .bytes (s .b)) };
+
+    ghost past = { λ s. beyond (A·Backing .row (s .a) ++ B·Backing .row (s .b)) ++ (A·Backing .past (s .a) ++ B·Backing .past (s .b)) };
 
     ghost held = { λ s. A·Backing .held (s .a) ++ B·Backing .held (s .b) };
 

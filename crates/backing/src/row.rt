@@ -18,6 +18,9 @@ pub trait Backing {
     // The names of the references that it holds: with them a caller knows its own bytes again.
     ghost held: { Self → List GName };
 
+    // The bytes that it keeps past its row: no call changes them.
+    ghost past: { Self → List ℕ };
+
     fn len(&self) -> usize
         ensures { λ r. ⌜ r ≡ length (row (now (self .entry))) ⌝ };
 
@@ -26,5 +29,6 @@ pub trait Backing {
 
     fn put(&mut self, place: usize, byte: u8) -> Result<(), Fault>
         ensures row { λ r. ⌜ Writes (row (now (self .entry))) (row (now (self .exit))) place byte r ⌝ }
+        ensures past { λ _. ⌜ past (now (self .exit)) ≡ past (now (self .entry)) ⌝ }
         ensures held { λ _. ⌜ held (now (self .exit)) ≡ held (now (self .entry)) ⌝ };
 }

@@ -1,0 +1,3 @@
+pub mod Laying
+pub mod Rows
+pub mod Sizes

@@ -1,0 +1,6 @@
+// The chip: its parts, its calls, and when two chips are the same.
+pub mod calls;
+mod cells;
+pub mod part;
+mod places;
+pub mod unit;
