@@ -70,6 +70,7 @@ fn past_the_cap(rt: LibcRuntime) -> Result<(), Fail> {
     check_eq(image.put(1_048_575, 7), Ok(()))?;
     check_eq(image.put(1_048_576, 7), Err(PAST))?;
     check_eq(image.bytes().len(), 1_048_578)?;
+    check_eq(image.bytes().get(1_048_576).copied(), Some(5))?;
     let pair = Pair::new(Image::new(&mut one), image);
     check_eq(pair.len(), 1_048_576)?;
     check_eq(pair.get(1_048_575), Ok(5))?;
