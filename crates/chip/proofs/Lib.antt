@@ -1,3 +1,4 @@
+pub mod Deliveries
 pub mod Laying
 pub mod Rows
 pub mod Sizes

@@ -1,5 +1,6 @@
 // The chip: its parts, its calls, and when two chips are the same.
 pub mod calls;
+pub mod delivered;
 mod cells;
 pub mod part;
 mod places;
