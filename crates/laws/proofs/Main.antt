@@ -30,13 +30,13 @@ use Rattle.rules.specs.Calls.{Call, event, capture, Outcome, records, outcome, 
 use Rattle.laws.specs.Journal.{Journal, blank, enabled, cell, noted-call, journal-of}
 use Rattle.laws.specs.Journal as note
 use Rattle.laws.specs.Laws as law
-use Rattle.laws.specs.Laws.{Action, send, call-of, answers, as-number, first-of, journal-says, journal-answers, chip-after, Answers-stand, Cells, Cells-stand, Unfit-stand, Refused-event-stands, Refused-capture-stands, At-rest, Alike, Agree, Sameness, Sameness-stands}
+use Rattle.laws.specs.Laws.{Action, send, call-of, answers, as-number, first-of, journal-says, journal-answers, chip-after, Telling, tells-more, journal-tells, told-first, journal-capture, Answers-stand, Captures-stand, Cells, Cells-stand, Unfit-stand, Refused-event-stands, Refused-capture-stands, At-rest, Alike, Agree, Sameness, Sameness-stands}
 use Rattle.laws.proofs.Bits.{goes-on}
 use Rattle.laws.proofs.Keeps.{Tracks, tracks, resting, young, old, late-off, late-old}
 use Rattle.laws.proofs.Sound.{Sound-list, byte-by}
 use Rattle.laws.proofs.Plain.{fit-says, fit-view}
 use Rattle.laws.proofs.Tell.{tells, fit-length}
-use Rattle.laws.proofs.Runs.{Stands, stays-fit, birth-stands, event-alike, call-stands, history-stands, unfit-call, unfit-history, unfit-noted, unfit-journal}
+use Rattle.laws.proofs.Runs.{Stands, stays-fit, birth-stands, event-stands, event-alike, call-stands, history-stands, unfit-call, unfit-history, unfit-noted, unfit-journal}
 
 -- a history on a fit birth row
 stands : (p : Shape) → Lawful p → (birth : List ℕ) → unfit p (take (cell-count p) birth) ≡ None → (h : List Call) → Stands p birth (law.journal-after p birth h) (chip-after p birth h)
@@ -123,6 +123,56 @@ cells-stand p lw birth h = by (unfit p (take (cell-count p) birth)) refl
     by (Some r) e =
         subst (λ v. Cells p birth v (law.journal-after p birth h)) (sym (unfit-history p r (born p birth) e h))
         (subst (λ j. Cells p birth (born p birth) j) (sym (unfit-journal p r birth e blank h)) (born-cells p birth))
+
+-- ---- captures
+
+abbrev Told : Outcome → Telling → Type 0
+Told o t = (o .levels ≡ t .levels) × (o .says ≡ t .says)
+
+abbrev level-or : Level → Result Level Refusal → Level
+level-or q (Ok x) = x
+level-or q (Err r) = q
+
+abbrev refusal-or : Refusal → Result Level Refusal → Refusal
+refusal-or r (Ok x) = r
+refusal-or r (Err s) = s
+
+abbrev is-level : Result Level Refusal → Type 0
+is-level (Ok q) = Unit {0}
+is-level (Err r) = ⊥
+
+records-told : (p : Shape) → Lawful p → (birth bytes : List ℕ) (i : ℕ) (j : Journal) (v : View) → Stands p birth j v → Told (records p v i bytes) (journal-tells p birth j i bytes)
+records-told p lw birth [] i j v s = (refl, refl)
+records-told p lw birth (k ∷ []) i j v s = (refl, refl)
+records-told p lw birth (k ∷ l ∷ more) i j v s =
+    by (step p v k l) (note.journal-step p birth j k l) (event-alike p lw birth j v s k l) (event-stands p lw birth j v s k l) (λ u x t. records-told p lw birth more (i + 1) x u t)
+  where
+    by : (d : Done) (n : note.Noting) → rule.answer d ≡ note.journal-answer n → Stands p birth (note.journal-after j n) (rule.after v d) →
+        ((u : View) (x : Journal) → Stands p birth x u → Told (records p u (i + 1) more) (journal-tells p birth x (i + 1) more)) →
+        Told (elim d as (λ _. Outcome) [ taken u ↦ call.with-level (rule.seen (u .shift)) (records p u (i + 1) more) | refused r ↦ record { view = v; levels = []; says = Err (raised r i) } ])
+        (elim n as (λ _. Telling) [ note.took x ↦ tells-more (note.q-of x) (journal-tells p birth x (i + 1) more) | note.turned r ↦ record { levels = []; says = Err (raised r i) } ])
+    by (taken u) (note.took x) e t go =
+        let rest = go u x t in
+        ( ap (λ q. q ∷ records p u (i + 1) more .levels) (ap (level-or (note.q-of x)) e) ∙ ap (λ qs. note.q-of x ∷ qs) (rest .0), rest .1 )
+    by (taken u) (note.turned r) e t go = absurd (subst is-level e tt)
+    by (refused r) (note.took x) e t go = absurd (subst is-level (sym e) tt)
+    by (refused r) (note.turned q) e t go = (refl, ap (λ x. Err (raised x i)) (ap (refusal-or r) e))
+
+told-by : (p : Shape) → Lawful p → (birth : List ℕ) (j : Journal) (v : View) (bytes : List ℕ) (o o′ : Option Refusal) → (o ≡ None → Stands p birth j v) →
+    Told (call.unless o v (call.unless o′ v (records p v 0 bytes))) (told-first o (told-first o′ (journal-tells p birth j 0 bytes)))
+told-by p lw birth j v bytes (Some r) o′ s = (refl, refl)
+told-by p lw birth j v bytes None (Some r) s = (refl, refl)
+told-by p lw birth j v bytes None None s = records-told p lw birth bytes 0 j v (s refl)
+
+pub captures-stand : Captures-stand
+captures-stand p lw birth h bytes room = by (unfit p (take (cell-count p) birth)) refl
+  where
+    by : (o : Option Refusal) → unfit p (take (cell-count p) birth) ≡ o →
+        Told (outcome p (chip-after p birth h) (capture bytes room)) (journal-capture p birth (law.journal-after p birth h) bytes room)
+    by o e =
+        let same : unfit p (chip-after p birth h .cells) ≡ unfit p (take (cell-count p) birth) = cells-stand p lw birth h .fitness in
+        subst (λ x. Told (call.unless x (chip-after p birth h) (call.unless (refused-capture bytes room) (chip-after p birth h) (records p (chip-after p birth h) 0 bytes))) (journal-capture p birth (law.journal-after p birth h) bytes room)) (sym same)
+        (told-by p lw birth (law.journal-after p birth h) (chip-after p birth h) bytes (unfit p (take (cell-count p) birth)) (refused-capture bytes room) (λ z. stands p lw birth z h))
 
 pub unfit-stand : Unfit-stand
 unfit-stand p birth r e h x =

@@ -18,10 +18,10 @@ use Rattle.rules.specs.declared.state.Level.{Level}
 use Rattle.rules.specs.declared.state.Phase.the-variants.{Deselected}
 use Rattle.rules.specs.declared.state.Cycle.the-variants.{Idle}
 use Rattle.rules.specs.Shape.{Shape, Lawful, cell-count}
-use Rattle.rules.specs.Tables.{level-number, unfit}
+use Rattle.rules.specs.Tables.{level-number, unfit, refused-capture}
 use Rattle.rules.specs.Rules.{View, born}
 use Rattle.rules.specs.Calls.{Call, event, capture, outcome, called, after-calls}
-use Rattle.laws.specs.Journal.{Journal, blank, enabled, cell, journal-step, journal-answer, noted-call, journal-of}
+use Rattle.laws.specs.Journal.{Journal, blank, enabled, cell, took, turned, q-of, journal-step, journal-answer, noted-call, journal-of}
 
 -- a further action on a chip: an event of two bytes
 pub data Action : Type 0 where
@@ -63,6 +63,38 @@ abbrev pub Answers-stand : Type 0
 Answers-stand =
     (p : Shape) → Lawful p → (birth : List ℕ) (h : List Call) (xs : List Action) →
     answers p (chip-after p birth h) xs ≡ journal-answers p birth (journal-after p birth h) xs
+
+-- what the journal says of a capture's records from number i on: the levels one by one, and the answer
+pub record Telling : Type 0 where
+  pub levels : List Level
+  pub says : Result ℕ Fault
+
+abbrev pub tells-more : Level → Telling → Telling
+tells-more q t = record { levels = q ∷ t .levels; says = t .says }
+
+abbrev pub journal-tells : Shape → List ℕ → Journal → ℕ → List ℕ → Telling
+journal-tells p birth j i [] = record { levels = []; says = Ok i }
+journal-tells p birth j i (k ∷ []) = record { levels = []; says = Ok i }
+journal-tells p birth j i (k ∷ l ∷ more) =
+    elim (journal-step p birth j k l) as (λ _. Telling)
+    [ took x ↦ tells-more (q-of x) (journal-tells p birth x (i + 1) more)
+    | turned r ↦ record { levels = []; says = Err (raised r i) } ]
+
+-- a capture that is refused ahead of its records tells nothing
+abbrev pub told-first : Option Refusal → Telling → Telling
+told-first None t = t
+told-first (Some r) t = record { levels = []; says = Err (raised r 0) }
+
+abbrev pub journal-capture : Shape → List ℕ → Journal → List ℕ → ℕ → Telling
+journal-capture p birth j bytes room =
+    told-first (unfit p (take (cell-count p) birth)) (told-first (refused-capture bytes room) (journal-tells p birth j 0 bytes))
+
+-- captures: after every history each further capture draws the journal's levels and answer
+abbrev pub Captures-stand : Type 0
+Captures-stand =
+    (p : Shape) → Lawful p → (birth : List ℕ) (h : List Call) (bytes : List ℕ) (room : ℕ) →
+    (outcome p (chip-after p birth h) (capture bytes room) .levels ≡ journal-capture p birth (journal-after p birth h) bytes room .levels)
+    × (outcome p (chip-after p birth h) (capture bytes room) .says ≡ journal-capture p birth (journal-after p birth h) bytes room .says)
 
 -- the row of a chip's backing: its part's cells, and past them what stood there at birth
 abbrev pub row-of : Shape → List ℕ → View → List ℕ
