@@ -9,3 +9,4 @@ pub mod Plain
 pub mod Tell
 pub mod Runs
 pub mod Main
+pub mod Delivered

@@ -22,15 +22,15 @@ use Rattle.rules.specs.declared.state.Level.{Level}
 use Rattle.rules.specs.declared.state.Phase.the-variants.{Deselected}
 use Rattle.rules.specs.declared.state.Cycle.the-variants.{Idle}
 use Rattle.rules.specs.Shape.{Shape, Lawful, cell-count}
-use Rattle.rules.specs.Tables.{named, unfit, refused-capture}
+use Rattle.rules.specs.Tables.{named, unfit, refused-capture, refused-copy}
 use Rattle.rules.specs.Rules as rule
 use Rattle.rules.specs.Rules.{View, Done, taken, refused, step, born, is-off, at-rest}
 use Rattle.rules.specs.Calls as call
-use Rattle.rules.specs.Calls.{Call, event, capture, Outcome, records, outcome, called, after-calls}
+use Rattle.rules.specs.Calls.{Call, event, capture, copy, Outcome, records, outcome, called, after-calls}
 use Rattle.laws.specs.Journal.{Journal, blank, enabled, cell, noted-call, journal-of}
 use Rattle.laws.specs.Journal as note
 use Rattle.laws.specs.Laws as law
-use Rattle.laws.specs.Laws.{Action, send, call-of, answers, as-number, first-of, journal-says, journal-answers, chip-after, Telling, tells-more, journal-tells, told-first, journal-capture, Answers-stand, Captures-stand, Cells, Cells-stand, Unfit-stand, Refused-event-stands, Refused-capture-stands, At-rest, Alike, Agree, Sameness, Sameness-stands}
+use Rattle.laws.specs.Laws.{Action, send, call-of, answers, as-number, first-of, journal-says, journal-answers, chip-after, Telling, tells-more, journal-tells, told-first, journal-capture, Answers-stand, Captures-stand, Cells, Cells-stand, Copies-stand, journal-copy, Unfit-stand, Refused-event-stands, ahead-of, Refused-capture, Refused-capture-stands, At-rest, Alike, Agree, Sameness, Sameness-stands}
 use Rattle.laws.proofs.Bits.{goes-on}
 use Rattle.laws.proofs.Keeps.{Tracks, tracks, resting, young, old, late-off, late-old}
 use Rattle.laws.proofs.Sound.{Sound-list, byte-by}
@@ -272,6 +272,14 @@ record Stops (p : Shape) (v : View) (i : ℕ) (bytes : List ℕ) (e : Fault) : T
   at : e .«record» ≡ i + n
   some : 2 * n ≤ length bytes
   same : records p v i bytes .view ≡ records p v i (take (2 * n) bytes) .view
+  levels : records p v i bytes .levels ≡ records p v i (take (2 * n) bytes) .levels
+  before : records p v i (take (2 * n) bytes) .says ≡ Ok (i + n)
+  here : step p (records p v i (take (2 * n) bytes) .view) (getD bytes (2 * n) 0) (getD bytes (2 * n + 1) 0) ≡ refused (e .refusal)
+  fault : e ≡ raised (e .refusal) (e .«record»)
+
+abbrev fault-or : Fault → Result ℕ Fault → Fault
+fault-or d (Ok n) = d
+fault-or d (Err e) = e
 
 stops : (p : Shape) (bytes : List ℕ) (v : View) (i : ℕ) (e : Fault) → records p v i bytes .says ≡ Err e → Stops p v i bytes e
 stops p [] v i e q = absurd (subst is-err (sym q) tt)
@@ -280,12 +288,33 @@ stops p (k ∷ l ∷ more) v i e q = by (step p v k l) refl q (λ u z. stops p m
   where
     by : (d : Done) → step p v k l ≡ d → follow p v i d more .says ≡ Err e → ((u : View) → records p u (i + 1) more .says ≡ Err e → Stops p u (i + 1) more e) → Stops p v i (k ∷ l ∷ more) e
     by (refused r) s z go =
-        record { n = 0; at = sym (ap fault-record z) ∙ omega arith; some = omega arith; same = ap (λ d. follow p v i d more .view) s }
+        let f : raised r i ≡ e = ap (fault-or e) z in
+        let zero : i + 0 ≡ i = omega arith in
+        record { n = 0; at = sym (ap (λ x. x .«record») f) ∙ sym zero; some = omega arith;
+          same = ap (λ d. follow p v i d more .view) s; levels = ap (λ d. follow p v i d more .levels) s;
+          before = ap Ok (sym zero);
+          here = s ∙ ap refused (ap (λ x. x .refusal) f);
+          fault = sym f ∙ ap (λ x. raised (x .refusal) (x .«record»)) f }
     by (taken u) s z go =
         let c = go u z in
         let two : 2 * (c .n + 1) ≡ suc (suc (2 * c .n)) = omega arith in
-        record { n = c .n + 1; at = c .at ∙ omega arith; some = longer (c .n) (length more) (c .some);
-          same = ap (λ d. follow p v i d more .view) s ∙ c .same ∙ sym (ap (λ d. follow p v i d (take (2 * c .n) more) .view) s) ∙ sym (ap (λ m. records p v i (take m (k ∷ l ∷ more)) .view) two) }
+        let three : 2 * (c .n + 1) + 1 ≡ suc (suc (2 * c .n + 1)) = omega arith in
+        let sum : i + 1 + c .n ≡ i + (c .n + 1) = omega arith in
+        let ys : List ℕ = take (2 * c .n) more in
+        let cut : (F : List ℕ → Type 0) → F (k ∷ l ∷ ys) → F (take (2 * (c .n + 1)) (k ∷ l ∷ more)) = λ F x. subst (λ m. F (take m (k ∷ l ∷ more))) (sym two) x in
+        record { n = c .n + 1; at = c .at ∙ sum; some = longer (c .n) (length more) (c .some);
+          same = cut (λ zs. records p v i (k ∷ l ∷ more) .view ≡ records p v i zs .view)
+            (ap (λ d. follow p v i d more .view) s ∙ c .same ∙ sym (ap (λ d. follow p v i d ys .view) s));
+          levels = cut (λ zs. records p v i (k ∷ l ∷ more) .levels ≡ records p v i zs .levels)
+            (ap (λ d. follow p v i d more .levels) s ∙ ap (λ qs. rule.seen (u .shift) ∷ qs) (c .levels) ∙ sym (ap (λ d. follow p v i d ys .levels) s));
+          before = cut (λ zs. records p v i zs .says ≡ Ok (i + (c .n + 1)))
+            (ap (λ d. follow p v i d ys .says) s ∙ c .before ∙ ap Ok sum);
+          here = cut (λ zs. step p (records p v i zs .view) (getD (k ∷ l ∷ more) (2 * (c .n + 1)) 0) (getD (k ∷ l ∷ more) (2 * (c .n + 1) + 1) 0) ≡ refused (e .refusal))
+            (ap (λ w. step p w (getD (k ∷ l ∷ more) (2 * (c .n + 1)) 0) (getD (k ∷ l ∷ more) (2 * (c .n + 1) + 1) 0)) (ap (λ d. follow p v i d ys .view) s)
+            ∙ ap (λ m. step p (records p u (i + 1) ys .view) (getD (k ∷ l ∷ more) m 0) (getD (k ∷ l ∷ more) (2 * (c .n + 1) + 1) 0)) two
+            ∙ ap (λ m. step p (records p u (i + 1) ys .view) (getD more (2 * c .n) 0) (getD (k ∷ l ∷ more) m 0)) three
+            ∙ c .here);
+          fault = c .fault }
       where
         longer : (n m : ℕ) → 2 * n ≤ m → 2 * (n + 1) ≤ suc (suc m)
         longer n m h = omega arith
@@ -302,17 +331,69 @@ ready bytes n h =
     half : (m n : ℕ) → m ≡ 2 * n → m / 2 ≤ n
     half m n e = omega arith
 
+abbrev cut-at : Shape → View → List ℕ → ℕ → Option Refusal → Outcome
+cut-at p v bytes m o = call.unless o v (call.unless (refused-capture (take (2 * m) bytes) m) v (records p v 0 (take (2 * m) bytes)))
+
+-- the records ahead of the refused one, on a fit chip
+ahead-is : (p : Shape) (v : View) (bytes : List ℕ) (e : Fault) (c : Stops p v 0 bytes e) → cut-at p v bytes (e .«record») None ≡ records p v 0 (take (2 * c .n) bytes)
+ahead-is p v bytes e c =
+    let n : 0 + c .n ≡ c .n = omega arith in
+    ap (λ m. cut-at p v bytes m None) (c .at ∙ n)
+    ∙ ap (λ o. call.unless o v (records p v 0 (take (2 * c .n) bytes))) (ready bytes (c .n) (c .some))
+
 pub refused-capture-stands : Refused-capture-stands
-refused-capture-stands p v bytes room e says = by (unfit p (v .cells)) (refused-capture bytes room) says
+refused-capture-stands p v bytes room e says = by (unfit p (v .cells)) refl (refused-capture bytes room) refl says
   where
-    by : (o o′ : Option Refusal) → call.unless o v (call.unless o′ v (records p v 0 bytes)) .says ≡ Err e →
-        call.unless o v (call.unless o′ v (records p v 0 bytes)) .view ≡ call.unless o v (call.unless (refused-capture (take (2 * e .«record») bytes) (e .«record»)) v (records p v 0 (take (2 * e .«record») bytes))) .view
-    by (Some r) o′ q = refl
-    by None (Some r) q =
-        ap (λ m. call.unless (refused-capture (take (2 * m) bytes) m) v (records p v 0 (take (2 * m) bytes)) .view) (ap fault-record q)
-    by None None q =
+    by : (o : Option Refusal) → unfit p (v .cells) ≡ o → (o′ : Option Refusal) → refused-capture bytes room ≡ o′ → call.unless o v (call.unless o′ v (records p v 0 bytes)) .says ≡ Err e → Refused-capture p v bytes room e
+    by (Some r) f o′ g q =
+        record { view = ap (λ o. call.unless o v (call.unless (refused-capture bytes room) v (records p v 0 bytes)) .view) f ∙ sym (ap (λ o. cut-at p v bytes (e .«record») o .view) f);
+          levels = ap (λ o. call.unless o v (call.unless (refused-capture bytes room) v (records p v 0 bytes)) .levels) f ∙ sym (ap (λ o. cut-at p v bytes (e .«record») o .levels) f);
+          at = λ n _. absurd (subst is-none (sym n ∙ f) tt) }
+    by None f (Some r) g q =
+        let whole : outcome p v (capture bytes room) ≡ record { view = v; levels = []; says = Err (raised r 0) } =
+            ap (λ o. call.unless o v (call.unless (refused-capture bytes room) v (records p v 0 bytes))) f ∙ ap (λ o. call.unless o v (records p v 0 bytes)) g in
+        let part : ahead-of p v bytes e ≡ record { view = v; levels = []; says = Ok 0 } =
+            ap (λ o. cut-at p v bytes (e .«record») o) f ∙ ap (λ m. cut-at p v bytes m None) (sym (ap fault-record q)) in
+        record { view = ap (λ x. x .view) whole ∙ sym (ap (λ x. x .view) part); levels = ap (λ x. x .levels) whole ∙ sym (ap (λ x. x .levels) part);
+          at = λ _ n. absurd (subst is-none (sym n ∙ g) tt) }
+    by None f None g q =
         let c = stops p bytes v 0 e q in
-        let at : c .n ≡ e .«record» = sym (c .at ∙ omega arith) in
-        c .same
-        ∙ sym (ap (λ o. call.unless o v (records p v 0 (take (2 * c .n) bytes)) .view) (ready bytes (c .n) (c .some)))
-        ∙ ap (λ m. call.unless (refused-capture (take (2 * m) bytes) m) v (records p v 0 (take (2 * m) bytes)) .view) at
+        let whole : outcome p v (capture bytes room) ≡ records p v 0 bytes =
+            ap (λ o. call.unless o v (call.unless (refused-capture bytes room) v (records p v 0 bytes))) f ∙ ap (λ o. call.unless o v (records p v 0 bytes)) g in
+        let part : ahead-of p v bytes e ≡ records p v 0 (take (2 * c .n) bytes) = ap (λ o. cut-at p v bytes (e .«record») o) f ∙ ahead-is p v bytes e c in
+        let n : c .n ≡ e .«record» = sym (c .at ∙ omega arith) in
+        record { view = ap (λ x. x .view) whole ∙ c .same ∙ sym (ap (λ x. x .view) part);
+          levels = ap (λ x. x .levels) whole ∙ c .levels ∙ sym (ap (λ x. x .levels) part);
+          at = λ _ _. record {
+            before = ap (λ x. x .says) part ∙ c .before ∙ ap Ok (sym (c .at));
+            here = ap (λ x. step p (x .view) (getD bytes (2 * e .«record») 0) (getD bytes (2 * e .«record» + 1) 0)) part
+              ∙ sym (ap (λ m. step p (records p v 0 (take (2 * c .n) bytes) .view) (getD bytes (2 * m) 0) (getD bytes (2 * m + 1) 0)) n) ∙ c .here;
+            fault = c .fault } }
+
+-- ---- page copies
+
+pub copies-stand : Copies-stand
+copies-stand p lw birth h page at room =
+    let v = chip-after p birth h in
+    let j = law.journal-after p birth h in
+    let same : unfit p (v .cells) ≡ unfit p (take (cell-count p) birth) = cells-stand p lw birth h .fitness in
+    ( ap (λ o. call.unless o v (call.unless (refused-copy p (rule.running (v .cycle)) page at room) v (record { view = v; levels = []; says = Ok 256 })) .says) same
+      ∙ by (unfit p (take (cell-count p) birth)) refl
+    , stays (unfit p (v .cells)) (refused-copy p (rule.running (v .cycle)) page at room) )
+  where
+    runs-same : {j : Journal} {v : View} → Tracks p birth j v → rule.running (v .cycle) ≡ note.cycle-runs (j .entries)
+    runs-same (tracks ft m) = m .run-is
+    fit-says-copy : (v : View) (o : Option Refusal) → call.unless o v (record { view = v; levels = []; says = Ok 256 }) .says ≡ first-of o (Ok 256)
+    fit-says-copy v None = refl
+    fit-says-copy v (Some r) = refl
+    by : (o : Option Refusal) → unfit p (take (cell-count p) birth) ≡ o →
+        call.unless o (chip-after p birth h) (call.unless (refused-copy p (rule.running (chip-after p birth h .cycle)) page at room) (chip-after p birth h) (record { view = chip-after p birth h; levels = []; says = Ok 256 })) .says
+        ≡ first-of o (first-of (refused-copy p (note.cycle-runs (law.journal-after p birth h .entries)) page at room) (Ok 256))
+    by (Some r) e = refl
+    by None e =
+        fit-says-copy (chip-after p birth h) (refused-copy p (rule.running (chip-after p birth h .cycle)) page at room)
+        ∙ ap (λ r. first-of (refused-copy p r page at room) (Ok 256)) (runs-same (stands p lw birth e h .tie))
+    stays : (o o′ : Option Refusal) → call.unless o (chip-after p birth h) (call.unless o′ (chip-after p birth h) (record { view = chip-after p birth h; levels = []; says = Ok 256 })) .view ≡ chip-after p birth h
+    stays (Some r) o′ = refl
+    stays None (Some r) = refl
+    stays None None = refl

@@ -8,9 +8,10 @@ use lib.ListN.{length, getD, take, drop, replicate}
 use Rattle.std.specs.declared.option.Option.the-variants.{None}
 use Rattle.std.specs.declared.result.Result.{Result}
 use Rattle.std.specs.declared.result.Result.the-variants.{Ok, Err}
+use Rattle.backing.specs.Rows.{Bytes}
 use Rattle.backing.specs.declared.refusal.Refusal.{Refusal}
 use Rattle.rules.specs.declared.state.Level.{Level}
-use Rattle.rules.specs.Shape.{Shape, status-at, lock-at}
+use Rattle.rules.specs.Shape.{Shape, Lawful, status-at, lock-at}
 use Rattle.rules.specs.Tables.{level-number, unfit}
 use Rattle.rules.specs.Rules.{View, running, born, step, after, answer}
 use Rattle.rules.specs.Calls.{Call, capture}
@@ -98,19 +99,9 @@ falls v (b ∷ bs) =
     let u = sent (sent v 2 b) 1 1 in
     level (answer (step bench u 1 0)) ∷ falls (sent u 1 0) bs
 
-abbrev pub number : ℕ → List ℕ → ℕ
-number acc [] = acc
-number acc (b ∷ bs) = number (2 * acc + b) bs
-
--- n bytes of these levels
-abbrev pub bytes-of : ℕ → List ℕ → List ℕ
-bytes-of zero qs = []
-bytes-of (suc n) qs = number 0 (take 8 qs) ∷ bytes-of n (drop 8 qs)
-
--- the n bytes that a command draws, from the fall after its last bit on
+-- the levels of n bytes that a command draws, from the fall after its last bit on
 abbrev pub reply : View → List ℕ → ℕ → List ℕ
-reply v command n =
-    bytes-of n (drop (8 * length command - 1) (falls (selected v) (bits-of command ++ replicate (8 * n) 0)))
+reply v command n = drop (8 * length command - 1) (falls (selected v) (bits-of command ++ replicate (8 * n - 1) 0))
 
 abbrev pub cells-at : View → List ℕ → List ℕ
 cells-at v [] = []
@@ -122,8 +113,12 @@ same [] (y ∷ ys) = false
 same (x ∷ xs) [] = false
 same (x ∷ xs) (y ∷ ys) = eqb x y && same xs ys
 
+-- a command draws these bytes, and no high impedance in between
+abbrev pub draws : View → (command bytes : List ℕ) → Bool
+draws v command bytes = same (reply v command (length bytes)) (bits-of bytes)
+
 abbrev pub status-is : View → ℕ → Bool
-status-is v b = same (reply v (0x05 ∷ []) 1) (b ∷ [])
+status-is v b = draws v (0x05 ∷ []) (b ∷ [])
 
 -- ---- the cases
 
@@ -150,12 +145,24 @@ held-in-write = sent (clocked (selected (enables fresh)) (bits-of one-byte)) 4 0
 abbrev pub pulsed : View
 pulsed = deselected (clocked-pulsing (selected (enables fresh)) (bits-of one-byte))
 
--- two bytes of RDSR in a cycle that ends after the fourth bit of the first
+-- the levels of two bytes of RDSR in a cycle that ends after the fourth bit of the first
 abbrev pub cycle-ends-within : List ℕ
 cycle-ends-within =
     let v = clocked (selected (writes fresh one-byte)) (take 7 (bits-of (0x05 ∷ []))) in
     let first = 1 ∷ 0 ∷ 0 ∷ 0 ∷ [] in
-    bytes-of 2 (falls v first ++ falls (finishes (clocked v first)) (replicate 12 0))
+    falls v first ++ falls (finishes (clocked v first)) (replicate 12 0)
+
+-- what a rise of C, the two pulses of HOLD and the fall answer, bit by bit
+abbrev pub pulse-levels : View → List ℕ → List ℕ
+pulse-levels v [] = []
+pulse-levels v (b ∷ bs) =
+    let u = sent (sent v 2 b) 1 1 in
+    level (answer (step bench u 4 0)) ∷ level (answer (step bench (sent u 4 0) 4 1)) ∷ level (answer (step bench u 1 0)) ∷ pulse-levels (sent (sent (sent u 4 0) 4 1) 1 0) bs
+
+-- each level three times, the first two as of the bit before
+abbrev pub thrice : ℕ → List ℕ → List ℕ
+thrice was [] = []
+thrice was (q ∷ qs) = was ∷ was ∷ q ∷ thrice q qs
 
 abbrev pub quarter : View
 quarter = wrote fresh (0x01 ∷ 0x04 ∷ [])
@@ -195,15 +202,16 @@ cases =
     (held-in-write .shift .held && (not (runs (deselected held-in-write)) && runs (writes fresh one-byte))) ∷
     -- 8: pulses of HOLD while C is high
     (runs pulsed && same (cells-at (finishes pulsed) (0 ∷ 1 ∷ [])) (0x5A ∷ 0xFF ∷ [])) ∷
+    same (pulse-levels (selected (enables fresh)) (bits-of (0x05 ∷ 0x00 ∷ []))) (thrice 2 (falls (selected (enables fresh)) (bits-of (0x05 ∷ 0x00 ∷ [])))) ∷
     -- 9: READ from the last place of the array on
-    same (reply at-both-ends (0x03 ∷ 0x00 ∷ 0x0F ∷ 0xFF ∷ []) 2) (0xA5 ∷ 0xC3 ∷ []) ∷
+    draws at-both-ends (0x03 ∷ 0x00 ∷ 0x0F ∷ 0xFF ∷ []) (0xA5 ∷ 0xC3 ∷ []) ∷
     -- 10: WRSR of FFh; then with W high; with W low
     same (cells-at all-set (status-at bench ∷ [])) (0x8C ∷ []) ∷
     runs (writes all-set (0x01 ∷ 0x00 ∷ [])) ∷
     not (runs (writes (sent all-set 3 0) (0x01 ∷ 0x00 ∷ []))) ∷
     -- 11: RDSR in a cycle; a cycle that ends within the byte
     status-is (writes fresh one-byte) 0x03 ∷
-    same cycle-ends-within (0x03 ∷ 0x00 ∷ []) ∷
+    same cycle-ends-within (bits-of (0x03 ∷ 0x00 ∷ [])) ∷
     -- 12: LID of FDh; of 02h; then WRID, which counts on an open page
     (status-is (writes fresh (lid 0xFD)) 0x02 && same (cells-at (wrote fresh (lid 0xFD)) (lock-at bench ∷ [])) (0 ∷ [])) ∷
     same (cells-at (wrote fresh (lid 0x02)) (lock-at bench ∷ [])) (1 ∷ []) ∷
@@ -214,7 +222,7 @@ abbrev pub Bench-cases : Type 0
 Bench-cases =
     cases ≡
     true ∷ true ∷ true ∷ true ∷ true ∷ true ∷ true ∷ true ∷ true ∷ true ∷
-    true ∷ true ∷ true ∷ true ∷ true ∷ true ∷ true ∷ true ∷ true ∷ true ∷ []
+    true ∷ true ∷ true ∷ true ∷ true ∷ true ∷ true ∷ true ∷ true ∷ true ∷ true ∷ []
 
 -- ---- the laws speak of something
 
@@ -228,6 +236,8 @@ wren = capture (0 ∷ 0 ∷ pulses 5 (2 ∷ 1 ∷ pulses 2 (2 ∷ 0 ∷ pulses 1
 
 -- a delivered part is fit, deselected and idle, at its birth and after WREN, and these two histories do not agree
 pub record Rests : Type 0 where
+  pub lawful : Lawful bench
+  pub bytes : Bytes delivered
   pub fit : unfit bench (fresh .cells) ≡ None
   pub rests : At-rest fresh
   pub still-fit : unfit bench (chip-after bench delivered wren .cells) ≡ None

@@ -18,10 +18,10 @@ use Rattle.rules.specs.declared.state.Level.{Level}
 use Rattle.rules.specs.declared.state.Phase.the-variants.{Deselected}
 use Rattle.rules.specs.declared.state.Cycle.the-variants.{Idle}
 use Rattle.rules.specs.Shape.{Shape, Lawful, cell-count}
-use Rattle.rules.specs.Tables.{level-number, unfit, refused-capture}
-use Rattle.rules.specs.Rules.{View, born}
-use Rattle.rules.specs.Calls.{Call, event, capture, outcome, called, after-calls}
-use Rattle.laws.specs.Journal.{Journal, blank, enabled, cell, took, turned, q-of, journal-step, journal-answer, noted-call, journal-of}
+use Rattle.rules.specs.Tables.{level-number, unfit, refused-capture, refused-copy}
+use Rattle.rules.specs.Rules.{View, refused, step, born}
+use Rattle.rules.specs.Calls.{Call, event, capture, copy, Outcome, outcome, called, after-calls}
+use Rattle.laws.specs.Journal.{Journal, blank, enabled, cycle-runs, cell, took, turned, q-of, journal-step, journal-answer, noted-call, journal-of}
 
 -- a further action on a chip: an event of two bytes
 pub data Action : Type 0 where
@@ -96,7 +96,19 @@ Captures-stand =
     (outcome p (chip-after p birth h) (capture bytes room) .levels ≡ journal-capture p birth (journal-after p birth h) bytes room .levels)
     × (outcome p (chip-after p birth h) (capture bytes room) .says ≡ journal-capture p birth (journal-after p birth h) bytes room .says)
 
--- the row of a chip's backing: its part's cells, and past them what stood there at birth
+-- what the journal says of a page copy
+abbrev pub journal-copy : Shape → List ℕ → Journal → (page at room : ℕ) → Result ℕ Fault
+journal-copy p birth j page at room =
+    first-of (unfit p (take (cell-count p) birth)) (first-of (refused-copy p (cycle-runs (j .entries)) page at room) (Ok 256))
+
+-- page copies: after every history each is answered as the journal says, and changes nothing
+abbrev pub Copies-stand : Type 0
+Copies-stand =
+    (p : Shape) → Lawful p → (birth : List ℕ) (h : List Call) (page at room : ℕ) →
+    (outcome p (chip-after p birth h) (copy page at room) .says ≡ journal-copy p birth (journal-after p birth h) page at room)
+    × (called p (chip-after p birth h) (copy page at room) ≡ chip-after p birth h)
+
+-- the row of a chip's backing: its part's cells, and past them what stood there at birth, which no call touches
 abbrev pub row-of : Shape → List ℕ → View → List ℕ
 row-of p birth v = v .cells ++ drop (cell-count p) birth
 
@@ -125,10 +137,26 @@ abbrev pub Refused-event-stands : Type 0
 Refused-event-stands =
     (p : Shape) (v : View) (k l : ℕ) (e : Fault) → outcome p v (event k l) .says ≡ Err e → called p v (event k l) ≡ v
 
+-- the records ahead of a refused one, with room for their answers
+abbrev pub ahead-of : Shape → View → List ℕ → Fault → Outcome
+ahead-of p v bytes e = outcome p v (capture (take (2 * e .«record») bytes) (e .«record»))
+
+-- where the capture is not refused ahead of its records, those before the refused one are taken, and that one is refused
+pub record Refused-at (p : Shape) (v : View) (bytes : List ℕ) (e : Fault) : Type 0 where
+  pub before : ahead-of p v bytes e .says ≡ Ok (e .«record»)
+  pub here :
+    step p (ahead-of p v bytes e .view) (getD bytes (2 * e .«record») 0) (getD bytes (2 * e .«record» + 1) 0) ≡ refused (e .refusal)
+  pub fault : e ≡ raised (e .refusal) (e .«record»)
+
+pub record Refused-capture (p : Shape) (v : View) (bytes : List ℕ) (room : ℕ) (e : Fault) : Type 0 where
+  pub view : called p v (capture bytes room) ≡ ahead-of p v bytes e .view
+  pub levels : outcome p v (capture bytes room) .levels ≡ ahead-of p v bytes e .levels
+  pub at : unfit p (v .cells) ≡ None → refused-capture bytes room ≡ None → Refused-at p v bytes e
+
 abbrev pub Refused-capture-stands : Type 0
 Refused-capture-stands =
     (p : Shape) (v : View) (bytes : List ℕ) (room : ℕ) (e : Fault) → outcome p v (capture bytes room) .says ≡ Err e →
-    called p v (capture bytes room) ≡ called p v (capture (take (2 * e .«record») bytes) (e .«record»))
+    Refused-capture p v bytes room e
 
 -- ---- sameness
 

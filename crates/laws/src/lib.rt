@@ -1,6 +1,6 @@
 // The laws over whole runs, each as a contract.
 ghost use Rattle.laws.specs.Bench.{Bench-cases, Rests};
-ghost use Rattle.laws.specs.Laws.{Answers-stand, Captures-stand, Cells-stand, Unfit-stand, Refused-event-stands, Refused-capture-stands, Sameness-stands};
+ghost use Rattle.laws.specs.Laws.{Answers-stand, Captures-stand, Copies-stand, Cells-stand, Unfit-stand, Refused-event-stands, Refused-capture-stands, Sameness-stands};
 
 // The twelve bench cases come out as the rules say.
 pub fn bench_cases() -> u8
@@ -26,6 +26,13 @@ pub fn answers_stand() -> u8
 // After every history each further capture draws the levels and the answer that the journal says.
 pub fn captures_stand() -> u8
     ensures { λ _. ⌜ Captures-stand ⌝ }
+{
+    0
+}
+
+// After every history each further page copy is answered as the journal says, and changes nothing.
+pub fn copies_stand() -> u8
+    ensures { λ _. ⌜ Copies-stand ⌝ }
 {
     0
 }
