@@ -147,7 +147,7 @@ records-told p lw birth (k ∷ []) i j v s = (refl, refl)
 records-told p lw birth (k ∷ l ∷ more) i j v s =
     by (step p v k l) (note.journal-step p birth j k l) (event-alike p lw birth j v s k l) (event-stands p lw birth j v s k l) (λ u x t. records-told p lw birth more (i + 1) x u t)
   where
-    by : (d : Done) (n : note.Noting) → rule.answer d ≡ note.journal-answer n → Stands p birth (note.journal-after j n) (rule.after v d) →
+    by : (d : Done) (n : note.Noting) → rule.answer d ≡ note.journal-answer n → Stands p birth (note.after-noting j n) (rule.after v d) →
         ((u : View) (x : Journal) → Stands p birth x u → Told (records p u (i + 1) more) (journal-tells p birth x (i + 1) more)) →
         Told (elim d as (λ _. Outcome) [ taken u ↦ call.with-level (rule.seen (u .shift)) (records p u (i + 1) more) | refused r ↦ record { view = v; levels = []; says = Err (raised r i) } ])
         (elim n as (λ _. Telling) [ note.took x ↦ tells-more (note.q-of x) (journal-tells p birth x (i + 1) more) | note.turned r ↦ record { levels = []; says = Err (raised r i) } ])

@@ -82,15 +82,15 @@ is-ok (Ok q) = Unit {0}
 is-ok (Err r) = ⊥
 
 module _ (p : Shape) (law : Lawful p) (birth : List ℕ) where
-  noted-sound : (j : Journal) (r : Result Event Refusal) → Sound-list p (j .entries) → Sound-list p (note.journal-after j (note.notes-event p birth j r) .entries)
+  noted-sound : (j : Journal) (r : Result Event Refusal) → Sound-list p (j .entries) → Sound-list p (note.after-noting j (note.notes-event p birth j r) .entries)
   noted-sound j (Err r) g = g
   noted-sound j (Ok e) g = by (note.refuses j e)
     where
-      by : (o : Option Refusal) → Sound-list p (note.journal-after j (note.unless o (note.noting p birth j e)) .entries)
+      by : (o : Option Refusal) → Sound-list p (note.after-noting j (note.unless o (note.noting p birth j e)) .entries)
       by None = noting-sound p law birth j g e
       by (Some r) = g
 
-  pub event-stands : (j : Journal) (v : View) → Stands p birth j v → (k l : ℕ) → Stands p birth (note.journal-after j (journal-step p birth j k l)) (rule.after v (step p v k l))
+  pub event-stands : (j : Journal) (v : View) → Stands p birth j v → (k l : ℕ) → Stands p birth (note.after-noting j (journal-step p birth j k l)) (rule.after v (step p v k l))
   event-stands j v s k l =
       record { tie = together p law birth j v (s .tie) (decoded k l) .0; sound = noted-sound j (decoded k l) (s .sound) }
 
@@ -105,7 +105,7 @@ module _ (p : Shape) (law : Lawful p) (birth : List ℕ) where
   recorded (k ∷ l ∷ more) i j v s =
       by (step p v k l) (journal-step p birth j k l) (event-stands j v s k l) (event-alike j v s k l) (λ x u t. recorded more (i + 1) x u t)
     where
-      by : (d : Done) (n : Noting) → Stands p birth (note.journal-after j n) (rule.after v d) → rule.answer d ≡ note.journal-answer n →
+      by : (d : Done) (n : Noting) → Stands p birth (note.after-noting j n) (rule.after v d) → rule.answer d ≡ note.journal-answer n →
           ((x : Journal) (u : View) → Stands p birth x u → Stands p birth (journal-records p birth x more) (records p u (i + 1) more .view)) →
           Stands p birth (elim n as (λ _. Journal) [ took x ↦ journal-records p birth x more | turned r ↦ j ])
           ((elim d as (λ _. Outcome) [ taken u ↦ call.with-level (seen (u .shift)) (records p u (i + 1) more) | refused r ↦ record { view = v; levels = []; says = Err (raised r i) } ]) .view)
@@ -119,7 +119,7 @@ module _ (p : Shape) (law : Lawful p) (birth : List ℕ) where
   fit-stands : (x : Call) (j : Journal) (v : View) → Stands p birth j v → Stands p birth (note.fit-noted p birth j x) (call.fit-call p v x .view)
   fit-stands (event k l) j v s = by (step p v k l) (event-stands j v s k l)
     where
-      by : (d : Done) → Stands p birth (note.journal-after j (journal-step p birth j k l)) (rule.after v d) → Stands p birth (note.journal-after j (journal-step p birth j k l)) (call.one-event v d .view)
+      by : (d : Done) → Stands p birth (note.after-noting j (journal-step p birth j k l)) (rule.after v d) → Stands p birth (note.after-noting j (journal-step p birth j k l)) (call.one-event v d .view)
       by (taken u) t = t
       by (refused r) t = t
   fit-stands (capture bytes room) j v s = by (refused-capture bytes room)

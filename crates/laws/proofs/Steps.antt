@@ -85,7 +85,7 @@ keeps p law birth j v (tracks f m) e n = moves p law birth _ _ _ m _ _ _ _ _ _ _
 
 -- an event as it comes
 abbrev pub Both : Shape → List ℕ → rule.Done → note.Noting → View → Journal → Type 0
-Both p birth d n v j = Tracks p birth (note.journal-after j n) (rule.after v d) × (rule.answer d ≡ note.journal-answer n)
+Both p birth d n v j = Tracks p birth (note.after-noting j n) (rule.after v d) × (rule.answer d ≡ note.journal-answer n)
 
 both : (p : Shape) (birth : List ℕ) (v u : View) (j i : Journal) (o o′ : Option Refusal) → o ≡ o′ → Tracks p birth j v → (o′ ≡ None → Tracks p birth i u) → Both p birth (rule.unless o u) (note.unless o′ i) v j
 both p birth v u j i None None e t k = (k refl, ap Ok (seen-is (k refl)))

@@ -294,9 +294,9 @@ notes-event p birth j (Err r) = turned r
 abbrev pub journal-step : Shape → List ℕ → Journal → (kind level : ℕ) → Noting
 journal-step p birth j k l = notes-event p birth j (decoded k l)
 
-abbrev pub journal-after : Journal → Noting → Journal
-journal-after j (took i) = i
-journal-after j (turned r) = j
+abbrev pub after-noting : Journal → Noting → Journal
+after-noting j (took i) = i
+after-noting j (turned r) = j
 
 abbrev pub journal-answer : Noting → Result Level Refusal
 journal-answer (took j) = Ok (q-of j)
@@ -314,7 +314,7 @@ kept-by None j i = i
 kept-by (Some r) j i = j
 
 abbrev pub fit-noted : Shape → List ℕ → Journal → Call → Journal
-fit-noted p birth j (event k l) = journal-after j (journal-step p birth j k l)
+fit-noted p birth j (event k l) = after-noting j (journal-step p birth j k l)
 fit-noted p birth j (capture bytes room) = kept-by (refused-capture bytes room) j (journal-records p birth j bytes)
 fit-noted p birth j (copy page at room) = j
 

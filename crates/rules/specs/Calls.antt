@@ -1,8 +1,8 @@
 -- Calls on a chip: what they answer and what they leave, every refusal in its order.
-use Prim.Native.Nat.{ℕ, _+_}
+use Prim.Native.Nat.{ℕ, _+_, _*_}
 use mathlib.Core.Bool.{Bool, true, false}
-use mathlib.Core.List.{List, [], _∷_}
-use lib.ListN.{length}
+use mathlib.Core.List.{List, [], _∷_, _++_, map}
+use lib.ListN.{length, take, drop}
 use Rattle.std.specs.declared.option.Option.{Option}
 use Rattle.std.specs.declared.option.Option.the-variants.{Some, None}
 use Rattle.std.specs.declared.result.Result.{Result}
@@ -67,3 +67,13 @@ called p v x = outcome p v x .view
 abbrev pub after-calls : Shape → View → List Call → View
 after-calls p v [] = v
 after-calls p v (x ∷ xs) = after-calls p (called p v x) xs
+
+-- ---- what goes into the caller's buffers
+
+-- an answer buffer after these levels: each as its number, the bytes past them as they were
+abbrev pub written : List Level → List ℕ → List ℕ
+written levels old = map level-number levels ++ drop (length levels) old
+
+-- a buffer after a copy of a page of these cells to a place
+abbrev pub copied : List ℕ → (page at : ℕ) → List ℕ → List ℕ
+copied cells page at old = take at old ++ (take 256 (drop (page * 256) cells) ++ drop (at + 256) old)

@@ -256,10 +256,11 @@ abbrev pub rises-S : Shape → View → Bool → View
 rises-S p v true = deselected v (v .wel) (v .cycle)
 rises-S p v false = closed p v (v .stretch)
 
--- C moves; the last argument is held just before
+-- C moves to a level
 abbrev pub clocks : View → Bool → Phase → Shift → View
 clocks v l ph s = record { pins = with-clock (v .pins) l; wel = v .wel; cycle = v .cycle; stretch = ph; shift = s; cells = v .cells }
 
+-- a rise and a fall of C; the last argument is held just before
 abbrev pub rises-C : Shape → View → Bool → View
 rises-C p v true = clocks v true (v .stretch) (v .shift)
 rises-C p v false = clocks v true (latched (p .ident) (running (v .cycle)) (v .wel) (v .pins .input) (v .stretch)) (v .shift)
@@ -275,7 +276,7 @@ falls-C p v false = clocks v false (v .stretch) (shifted p v (held-now (v .stret
 abbrev pub with-pins : View → Pins → View
 with-pins v x = record { pins = x; wel = v .wel; cycle = v .cycle; stretch = v .stretch; shift = v .shift; cells = v .cells }
 
--- HOLD moves to h
+-- HOLD moves to h; the last argument is the level of C
 abbrev pub holds : View → Bool → Bool → View
 holds v h true = with-pins v (with-hold (v .pins) h)
 holds v h false =
