@@ -3,10 +3,16 @@ ghost use mathlib.Core.Path.{_≡_};
 ghost use Prim.Native.Nat.{ℕ, _+_, _<_, _≤_};
 ghost use lib.ListN.{length, take};
 ghost use denote.Ref.{name, now as behind};
-ghost use Rattle.rules.specs.Rules.{born};
-ghost use Rattle.chip.specs.Shows.{view-of};
+ghost use Rattle.rules.specs.Shape.{cell-count};
+ghost use Rattle.rules.specs.Rules.{born, step as stepped, after};
+ghost use Rattle.rules.specs.Calls.{outcome, event as an-event};
+ghost use Rattle.chip.specs.Shows.{view-of, Kept};
+ghost use Rattle.chip.specs.Answers.{answered, numbered};
+use super::cells;
+use super::events::admit;
 use super::part::Part;
 use super::unit::Chip;
+use backing::fault::Fault;
 use backing::row::Backing;
 use rules::state::Cycle;
 use rules::state::Level;
@@ -31,5 +37,29 @@ impl<'a, P: Part, B: Backing> Chip<'a, P, B> {
             shift: Shift { held: false, shown: Level::Float, sample: 0 },
             part: PhantomData,
         }
+    }
+
+    // An event on a chip whose row has the part's cells.
+    pub(crate) fn step(&mut self, kind: u8, level: u8) -> Result<Level, Fault>
+        requires { ⌜ cell-count (P·Part .shape) ≤ length (B·Backing .row (behind (now self .backing))) ⌝ }
+        ensures answer { λ r. ⌜ r ≡ answered (stepped (P·Part .shape) (view-of (P·Part .shape) (B·Backing .row) (now (self .entry))) kind level) ⌝ }
+        ensures view { λ _. ⌜ view-of (P·Part .shape) (B·Backing .row) (now (self .exit)) ≡ after (view-of (P·Part .shape) (B·Backing .row) (now (self .entry))) (stepped (P·Part .shape) (view-of (P·Part .shape) (B·Backing .row) (now (self .entry))) kind level) ⌝ }
+        ensures lent { λ _. ⌜ name (now (self .exit) .backing) ≡ name (now (self .entry) .backing) ⌝ }
+        ensures kept { λ _. ⌜ Kept (P·Part .shape) (B·Backing .row) (B·Backing .past) (B·Backing .held) (behind (now (self .entry) .backing)) (behind (now (self .exit) .backing)) ⌝ }
+    {
+        let off = self.stretch.is_off();
+        let event = admit(off, self.pins, self.cycle.runs(), kind, level)?;
+        self.apply(event)?;
+        Ok(self.shift.seen())
+    }
+
+    pub fn event(&mut self, kind: u8, level: u8) -> Result<Level, Fault>
+        ensures says { λ r. ⌜ numbered r ≡ outcome (P·Part .shape) (view-of (P·Part .shape) (B·Backing .row) (now (self .entry))) (an-event kind level) .says ⌝ }
+        ensures view { λ _. ⌜ view-of (P·Part .shape) (B·Backing .row) (now (self .exit)) ≡ outcome (P·Part .shape) (view-of (P·Part .shape) (B·Backing .row) (now (self .entry))) (an-event kind level) .view ⌝ }
+        ensures lent { λ _. ⌜ name (now (self .exit) .backing) ≡ name (now (self .entry) .backing) ⌝ }
+        ensures kept { λ _. ⌜ Kept (P·Part .shape) (B·Backing .row) (B·Backing .past) (B·Backing .held) (behind (now (self .entry) .backing)) (behind (now (self .exit) .backing)) ⌝ }
+    {
+        cells::making::<P, B>(self.backing)?;
+        self.step(kind, level)
     }
 }

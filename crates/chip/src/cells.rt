@@ -7,7 +7,7 @@ ghost use Rattle.std.specs.Results.{isOk};
 ghost use Rattle.std.specs.declared.result.Result.the-variants.{Ok};
 ghost use Rattle.rules.specs.Shape.{cell-count, status-at, lock-at};
 ghost use Rattle.rules.specs.Tables.{unfit};
-ghost use Rattle.rules.specs.Rules.{laid};
+ghost use Rattle.rules.specs.Rules.{laid, counts};
 ghost use Rattle.chip.specs.Shows.{cells-of};
 ghost use Rattle.chip.specs.Answers.{checked, unlawful};
 use super::part::Part;
@@ -16,6 +16,7 @@ use backing::fault::Fault;
 use backing::refusal::Refusal;
 use backing::row::Backing;
 use rules::page::keep;
+use rules::state::Page;
 
 // The byte of a cell.
 pub fn cell<P: Part, B: Backing>(backing: &B, place: usize) -> Result<u8, Fault>
@@ -62,6 +63,16 @@ pub fn making<P: Part, B: Backing>(backing: &B) -> Result<(), Fault>
         Some(refusal) => Err(Fault::of(refusal)),
         None => Ok(()),
     }
+}
+
+// Whether a write counts, with W at this level.
+pub fn takes<P: Part, B: Backing>(backing: &B, protect: bool, page: &Page) -> Result<bool, Fault>
+    requires { ⌜ cell-count (P·Part .shape) ≤ length (B·Backing .row (now backing)) ⌝ }
+    ensures { λ r. ⌜ r ≡ Ok (counts (P·Part .shape) protect (getD (cells-of (P·Part .shape) (B·Backing .row (now (backing .entry)))) (status-at (P·Part .shape)) 0) (getD (cells-of (P·Part .shape) (B·Backing .row (now (backing .entry)))) (lock-at (P·Part .shape)) 0) (now (page .entry))) ⌝ }
+{
+    let status = status::<P, B>(backing)?;
+    let lock = lock::<P, B>(backing)?;
+    Ok(page.counts(places::is_open::<P>(status, page.start), protect, status, lock))
 }
 
 // Puts the bytes of a write into the row, from `base` on.

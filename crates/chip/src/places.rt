@@ -2,8 +2,10 @@
 ghost use mathlib.Core.Path.{_≡_};
 ghost use Prim.Native.Nat.{ℕ, _+_, _<_, _≤_};
 ghost use Rattle.rules.specs.Shape.{array-len, unique-at, cell-count};
+ghost use Rattle.rules.specs.Tables.{page-of, page-open};
 ghost use Rattle.rules.specs.Rules.{place, base, reach};
 use super::part::Part;
+use rules::close::protected_from;
 use rules::state::Region;
 use rules::state::Target;
 
@@ -53,4 +55,11 @@ pub fn reach_of<P: Part>(target: Target) -> usize
         Target::Status => 1,
         Target::Lock => 1,
     }
+}
+
+// Whether the array page of an address is open to writes, under this status cell.
+pub fn is_open<P: Part>(status: u8, address: u32) -> bool
+    ensures { λ r. ⌜ r ≡ page-open (P·Part .shape) status (page-of (P·Part .shape) address) ⌝ }
+{
+    base_of::<P>(Target::Array, address) < protected_from(array_len::<P>(), status)
 }
