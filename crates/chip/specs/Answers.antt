@@ -1,6 +1,7 @@
 -- What a call answers.
 use Prim.Native.Nat.{ℕ}
 use mathlib.Core.Bool.{Bool, true, false}
+use mathlib.Core.Path.{_≡_}
 use lib.Dec.{eqb, ltb}
 use Rattle.std.specs.declared.option.Option.{Option}
 use Rattle.std.specs.declared.option.Option.the-variants.{Some, None}
@@ -45,3 +46,7 @@ numbered (Err e) = Err e
 abbrev pub unlawful : ℕ → ℕ → Option Refusal
 unlawful st lk =
     elim (eqb (kept st) st) [ false ↦ Some StatusBits | true ↦ elim (ltb 1 lk) [ true ↦ Some LockValue | false ↦ None ] ]
+
+-- a fresh byte is the one asked for where it is due: at bit 0 of an output byte, the highest
+abbrev pub Due : (k fresh byte : ℕ) → Type 0
+Due k fresh byte = k ≡ 0 → fresh ≡ byte

@@ -1,14 +1,17 @@
 // What an event that is taken does to a chip.
 ghost use mathlib.Core.Path.{_≡_};
 ghost use Prim.Native.Nat.{_≤_};
-ghost use lib.ListN.{length};
+ghost use mathlib.Core.Bool.{true};
+ghost use lib.ListN.{length, getD};
+ghost use Rattle.std.specs.Results.{isOk};
+ghost use Rattle.std.specs.Vec.{made};
 ghost use denote.Ref.{name, now as behind};
 ghost use Rattle.std.specs.declared.result.Result.the-variants.{Ok};
-ghost use Rattle.rules.specs.Shape.{cell-count};
-ghost use Rattle.rules.specs.Tables.{decoded};
-ghost use Rattle.rules.specs.Rules.{deselected, falls-C, rises-S, ended, moved};
-ghost use Rattle.chip.specs.Shows.{view-of, Kept};
-ghost use Rattle.chip.specs.Answers.{admitted};
+ghost use Rattle.rules.specs.Shape.{cell-count, status-at};
+ghost use Rattle.rules.specs.Tables.{decoded, status-byte};
+ghost use Rattle.rules.specs.Rules.{running, place, deselected, falls-C, rises-S, ended, moved};
+ghost use Rattle.chip.specs.Shows.{cells-of, view-of, Kept};
+ghost use Rattle.chip.specs.Answers.{admitted, Due};
 use super::cells;
 use super::part::Part;
 use super::places;
@@ -28,6 +31,7 @@ use rules::state::Event;
 use rules::state::Level;
 use rules::state::Phase;
 use rules::state::Pins;
+use rules::state::Region;
 use rules::state::Shift;
 
 // The event of two bytes, unless it is refused; `off` is the level of S.
@@ -52,6 +56,31 @@ impl<'a, P: Part, B: Backing> Chip<'a, P, B> {
         self.shift = Shift { held: false, shown: Level::Float, sample: 0 };
     }
 
+    // The status byte, where it is due: at bit 0 of an output byte, the highest.
+    fn fresh_status(&self, k: u8) -> Result<u8, Fault>
+        requires { ⌜ cell-count (P·Part .shape) ≤ length (B·Backing .row (behind (now self .backing))) ⌝ }
+        ensures made { λ r. ⌜ isOk r ≡ true ⌝ }
+        ensures value { λ r. ⌜ made r (λ fresh. Due k fresh (status-byte (getD (cells-of (P·Part .shape) (B·Backing .row (behind (now (self .entry) .backing)))) (status-at (P·Part .shape)) 0) (now (self .entry) .wel) (running (now (self .entry) .cycle)))) ⌝ }
+    {
+        if k != 0 {
+            return Ok(0);
+        }
+        let status = cells::status::<P, B>(self.backing)?;
+        Ok(status_byte(status, self.wel, self.cycle.runs()))
+    }
+
+    // The byte of a region, likewise.
+    fn fresh_byte(&self, region: Region, address: u32, k: u8) -> Result<u8, Fault>
+        requires { ⌜ cell-count (P·Part .shape) ≤ length (B·Backing .row (behind (now self .backing))) ⌝ }
+        ensures made { λ r. ⌜ isOk r ≡ true ⌝ }
+        ensures value { λ r. ⌜ made r (λ fresh. Due k fresh (getD (cells-of (P·Part .shape) (B·Backing .row (behind (now (self .entry) .backing)))) (place (P·Part .shape) region address) 0)) ⌝ }
+    {
+        if k != 0 {
+            return Ok(0);
+        }
+        cells::cell::<P, B>(self.backing, places::cell_of::<P>(region, address))
+    }
+
     fn clock_fall(&mut self) -> Result<(), Fault>
         requires { ⌜ cell-count (P·Part .shape) ≤ length (B·Backing .row (behind (now self .backing))) ⌝ }
         ensures made { λ r. ⌜ r ≡ Ok tt ⌝ }
@@ -66,12 +95,12 @@ impl<'a, P: Part, B: Backing> Chip<'a, P, B> {
         }
         match self.stretch {
             Phase::Status(k) => {
-                let status = cells::status::<P, B>(self.backing)?;
-                self.shift.out(held, status_byte(status, self.wel, self.cycle.runs()), k);
+                let fresh = self.fresh_status(k)?;
+                self.shift.out(held, fresh, k);
             }
             Phase::Output(region, address, k) => {
-                let byte = cells::cell::<P, B>(self.backing, places::cell_of::<P>(region, address))?;
-                self.shift.out(held, byte, k);
+                let fresh = self.fresh_byte(region, address, k)?;
+                self.shift.out(held, fresh, k);
             }
             _ => self.shift.held = held,
         }
