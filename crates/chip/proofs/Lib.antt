@@ -1,5 +1,8 @@
 pub mod Arms
+pub mod Capturing
 pub mod Deliveries
+pub mod Filling
+pub mod Histories
 pub mod Laying
 pub mod Rows
 pub mod Sizes

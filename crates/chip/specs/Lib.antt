@@ -1,2 +1,3 @@
 pub mod Shows
 pub mod Answers
+pub mod Sameness

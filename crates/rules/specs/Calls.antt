@@ -74,6 +74,11 @@ after-calls p v (x ∷ xs) = after-calls p (called p v x) xs
 abbrev pub written : List Level → List ℕ → List ℕ
 written levels old = map level-number levels ++ drop (length levels) old
 
--- a buffer after a copy of a page of these cells to a place
-abbrev pub copied : List ℕ → (page at : ℕ) → List ℕ → List ℕ
-copied cells page at old = take at old ++ (take 256 (drop (page * 256) cells) ++ drop (at + 256) old)
+-- the bytes of a page of these cells
+abbrev pub page-in : List ℕ → ℕ → List ℕ
+page-in cells page = take 256 (drop (page * 256) cells)
+
+-- a buffer after a page copy that answers so: the page's bytes from a place on, and every other byte as it was
+abbrev pub copied : Result ℕ Fault → (bytes : List ℕ) (at : ℕ) (old : List ℕ) → List ℕ
+copied (Ok n) bytes at old = take at old ++ (bytes ++ drop (at + 256) old)
+copied (Err e) bytes at old = old
