@@ -1,3 +1,4 @@
 pub mod Shows
 pub mod Answers
 pub mod Sameness
+pub mod Histories

@@ -8,6 +8,7 @@ ghost use Rattle.rules.specs.Rules.{born, step as stepped, after};
 ghost use Rattle.rules.specs.Calls.{outcome, event as an-event};
 ghost use Rattle.chip.specs.Shows.{view-of, Kept};
 ghost use Rattle.chip.specs.Answers.{answered, numbered};
+ghost use Rattle.chip.specs.Histories.{Event-law};
 use super::cells;
 use super::events::admit;
 use super::part::Part;
@@ -53,7 +54,8 @@ impl<'a, P: Part, B: Backing> Chip<'a, P, B> {
         Ok(self.shift.seen())
     }
 
-    pub fn event(&mut self, kind: u8, level: u8) -> Result<Level, Fault>
+    // An event on any chip: making's refusals come first.
+    pub(crate) fn take(&mut self, kind: u8, level: u8) -> Result<Level, Fault>
         ensures says { λ r. ⌜ numbered r ≡ outcome (P·Part .shape) (view-of (P·Part .shape) (B·Backing .row) (now (self .entry))) (an-event kind level) .says ⌝ }
         ensures view { λ _. ⌜ view-of (P·Part .shape) (B·Backing .row) (now (self .exit)) ≡ outcome (P·Part .shape) (view-of (P·Part .shape) (B·Backing .row) (now (self .entry))) (an-event kind level) .view ⌝ }
         ensures lent { λ _. ⌜ name (now (self .exit) .backing) ≡ name (now (self .entry) .backing) ⌝ }
@@ -61,5 +63,15 @@ impl<'a, P: Part, B: Backing> Chip<'a, P, B> {
     {
         cells::making::<P, B>(self.backing)?;
         self.step(kind, level)
+    }
+
+    pub fn event(&mut self, kind: u8, level: u8) -> Result<Level, Fault>
+        ensures says { λ r. ⌜ numbered r ≡ outcome (P·Part .shape) (view-of (P·Part .shape) (B·Backing .row) (now (self .entry))) (an-event kind level) .says ⌝ }
+        ensures view { λ _. ⌜ view-of (P·Part .shape) (B·Backing .row) (now (self .exit)) ≡ outcome (P·Part .shape) (view-of (P·Part .shape) (B·Backing .row) (now (self .entry))) (an-event kind level) .view ⌝ }
+        ensures lent { λ _. ⌜ name (now (self .exit) .backing) ≡ name (now (self .entry) .backing) ⌝ }
+        ensures kept { λ _. ⌜ Kept (P·Part .shape) (B·Backing .row) (B·Backing .past) (B·Backing .held) (behind (now (self .entry) .backing)) (behind (now (self .exit) .backing)) ⌝ }
+        ensures law { λ r. ⌜ Event-law (P·Part .shape) (view-of (P·Part .shape) (B·Backing .row) (now (self .entry))) (view-of (P·Part .shape) (B·Backing .row) (now (self .exit))) kind level r ⌝ }
+    {
+        self.take(kind, level)
     }
 }

@@ -6,6 +6,7 @@ ghost use denote.Ref.{name, now as behind};
 ghost use Rattle.rules.specs.Shape.{cell-count};
 ghost use Rattle.rules.specs.Calls.{outcome, capture as capturing, records as through, written};
 ghost use Rattle.chip.specs.Shows.{view-of, Kept};
+ghost use Rattle.chip.specs.Histories.{Capture-law};
 use super::cells;
 use super::part::Part;
 use super::unit::Chip;
@@ -16,6 +17,17 @@ use backing::row::Backing;
 impl<'a, P: Part, B: Backing> Chip<'a, P, B> {
     // Takes the records, each a kind and a level, and answers how many; Q after record i goes to answers[i].
     pub fn capture(&mut self, records: &[u8], answers: &mut [u8]) -> Result<usize, Fault>
+        ensures view { λ _. ⌜ view-of (P·Part .shape) (B·Backing .row) (now (self .exit)) ≡ outcome (P·Part .shape) (view-of (P·Part .shape) (B·Backing .row) (now (self .entry))) (capturing (now (records .entry)) (length (now (answers .entry)))) .view ⌝ }
+        ensures says { λ r. ⌜ r ≡ outcome (P·Part .shape) (view-of (P·Part .shape) (B·Backing .row) (now (self .entry))) (capturing (now (records .entry)) (length (now (answers .entry)))) .says ⌝ }
+        ensures answers { λ _. ⌜ now (answers .exit) ≡ written (outcome (P·Part .shape) (view-of (P·Part .shape) (B·Backing .row) (now (self .entry))) (capturing (now (records .entry)) (length (now (answers .entry)))) .levels) (now (answers .entry)) ⌝ }
+        ensures lent { λ _. ⌜ name (now (self .exit) .backing) ≡ name (now (self .entry) .backing) ⌝ }
+        ensures kept { λ _. ⌜ Kept (P·Part .shape) (B·Backing .row) (B·Backing .past) (B·Backing .held) (behind (now (self .entry) .backing)) (behind (now (self .exit) .backing)) ⌝ }
+        ensures law { λ r. ⌜ Capture-law (P·Part .shape) (view-of (P·Part .shape) (B·Backing .row) (now (self .entry))) (view-of (P·Part .shape) (B·Backing .row) (now (self .exit))) (now (records .entry)) (now (answers .entry)) (now (answers .exit)) (length (now (answers .entry))) r ⌝ }
+    {
+        self.run(records, answers)
+    }
+
+    fn run(&mut self, records: &[u8], answers: &mut [u8]) -> Result<usize, Fault>
         ensures view { λ _. ⌜ view-of (P·Part .shape) (B·Backing .row) (now (self .exit)) ≡ outcome (P·Part .shape) (view-of (P·Part .shape) (B·Backing .row) (now (self .entry))) (capturing (now (records .entry)) (length (now (answers .entry)))) .view ⌝ }
         ensures says { λ r. ⌜ r ≡ outcome (P·Part .shape) (view-of (P·Part .shape) (B·Backing .row) (now (self .entry))) (capturing (now (records .entry)) (length (now (answers .entry)))) .says ⌝ }
         ensures answers { λ _. ⌜ now (answers .exit) ≡ written (outcome (P·Part .shape) (view-of (P·Part .shape) (B·Backing .row) (now (self .entry))) (capturing (now (records .entry)) (length (now (answers .entry)))) .levels) (now (answers .entry)) ⌝ }
