@@ -2,6 +2,7 @@
 pub mod calls;
 mod captures;
 mod cells;
+pub mod client;
 mod copies;
 pub mod delivered;
 mod events;
