@@ -18,5 +18,5 @@ pub aims-view : (p : Shape) (v : View) (a : Access) (was : Bool) (n b x ident : 
 aims-view p v a was n b x ident r e h q i k held =
     let G : Phase → Phase = latched (p .ident) (running (v .cycle)) (v .wel) (v .pins .input) in
     ap (λ s. clocks v true s (v .shift))
-      (k ∙ ap (λ m. aimed m a was x) i ∙ ap (aimed (p .ident) a was) q ∙ latched-last (p .ident) (running (v .cycle)) (v .wel) (v .pins .input) a was n b h ∙ ap G (sym e))
+    (k ∙ ap (λ m. aimed m a was x) i ∙ ap (aimed (p .ident) a was) q ∙ latched-last (p .ident) (running (v .cycle)) (v .wel) (v .pins .input) a was n b h ∙ ap G (sym e))
     ∙ ap (rises-C p v) (sym held)

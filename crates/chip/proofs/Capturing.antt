@@ -27,7 +27,8 @@ kept-on p row past held x y z a b =
       same-held = b .same-held ∙ a .same-held;
       same-past = b .same-past ∙ a .same-past;
       same-length = b .same-length ∙ a .same-length;
-      same-rest = b .same-rest ∙ a .same-rest }
+      same-rest = b .same-rest ∙ a .same-rest;
+    }
 
 -- what one record makes of what is to come
 abbrev then : Shape → View → ℕ → List ℕ → Done → Outcome
@@ -36,9 +37,10 @@ then p v i more (refused r) = record { view = v; levels = []; says = Err (raised
 
 records-then : (p : Shape) (v : View) (i k l : ℕ) (more : List ℕ) (d : Done) → step p v k l ≡ d → records p v i (k ∷ l ∷ more) ≡ then p v i more d
 records-then p v i k l more d e =
-    ap (λ x. elim x as (λ _. Outcome)
-      [ taken u ↦ with-level (seen (u .shift)) (records p u (i + 1) more)
-      | refused r ↦ record { view = v; levels = []; says = Err (raised r i) } ]) e
+    ap (λ x. elim x as (λ _. Outcome) [
+      | taken u ↦ with-level (seen (u .shift)) (records p u (i + 1) more)
+      | refused r ↦ record { view = v; levels = []; says = Err (raised r i) }
+    ]) e
 
 -- i records are taken: what is to come gives the same chip and the same answer, its levels follow the answers so far,
 -- and the answer bytes from i on are as they were
@@ -71,7 +73,8 @@ midway-taken p v₀ v u recs old new i h k e m =
       view = m .view ∙ ap (λ z. z .view) f;
       says = m .says ∙ ap (λ z. z .says) f;
       levels = m .levels ∙ ap (λ z. take i new ++ map level-number (z .levels)) f ∙ sym (append-assoc (take i new) (q ∷ []) (map level-number (next .levels))) ∙ ap (λ z. z ++ map level-number (next .levels)) (sym (take-more-set new i q k));
-      rest = drop-set-lt (i + 1) new i q (omega arith) ∙ sym (drop-drop 1 i new) ∙ ap (drop 1) (m .rest) ∙ drop-drop 1 i old }
+      rest = drop-set-lt (i + 1) new i q (omega arith) ∙ sym (drop-drop 1 i new) ∙ ap (drop 1) (m .rest) ∙ drop-drop 1 i old;
+    }
 
 -- a record that is answered
 pub midway-more : (p : Shape) (v₀ v v′ : View) (recs old new : List ℕ) (i b : ℕ) (q : Level) (d : Done) → 2 * i + 1 < length recs → i < length new
@@ -102,7 +105,8 @@ ended p v₀ v recs old new i r h e m =
     record {
       view = sym (m .view ∙ ap (λ z. z .view) e);
       says = sym (m .says ∙ ap (λ z. z .says) e);
-      answers = laid-at (records p v₀ 0 recs .levels) old new i h (m .levels ∙ ap (λ z. take i new ++ map level-number (z .levels)) e ∙ append-nil (take i new)) (m .rest) }
+      answers = laid-at (records p v₀ 0 recs .levels) old new i h (m .levels ∙ ap (λ z. take i new ++ map level-number (z .levels)) e ∙ append-nil (take i new)) (m .rest);
+    }
 
 -- a record that is refused ends a run, and so does the last record
 pub ended-refused : (p : Shape) (v₀ v v′ : View) (recs old new : List ℕ) (i : ℕ) (f : Fault) (d : Done) → 2 * i + 1 < length recs → i ≤ length new

@@ -64,13 +64,22 @@ is-same (Err e) = false
 module _ (p : Shape) (birth birth′ : List ℕ) where
   equal-agree : {j j′ : Journal} {u v : View} → Tracks p birth j u → Tracks p birth′ j′ v → Equal p u v → Agree p birth birth′ j j′
   equal-agree (tracks ft m) (tracks ft′ m′) q =
-      record { same-C = ap (λ x. x .clock) (q .same-pins); same-D = ap (λ x. x .input) (q .same-pins); same-W = ap (λ x. x .protect) (q .same-pins); same-HOLD = ap (λ x. x .hold) (q .same-pins);
-        same-enabled = q .same-wel; same-cells = λ i h. sym (m .now-is i h) ∙ (q .same-cells i h ∙ m′ .now-is i h) }
+      record {
+        same-C = ap (λ x. x .clock) (q .same-pins);
+        same-D = ap (λ x. x .input) (q .same-pins);
+        same-W = ap (λ x. x .protect) (q .same-pins);
+        same-HOLD = ap (λ x. x .hold) (q .same-pins);
+        same-enabled = q .same-wel;
+        same-cells = λ i h. sym (m .now-is i h) ∙ (q .same-cells i h ∙ m′ .now-is i h);
+      }
 
   agree-equal : {j j′ : Journal} {u v : View} → Tracks p birth j u → Tracks p birth′ j′ v → Agree p birth birth′ j j′ → Equal p u v
   agree-equal (tracks ft m) (tracks ft′ m′) ag =
-      record { same-pins = λ i. record { clock = ag .same-C i; input = ag .same-D i; protect = ag .same-W i; hold = ag .same-HOLD i };
-        same-wel = ag .same-enabled; same-cells = λ i h. m .now-is i h ∙ (ag .same-cells i h ∙ sym (m′ .now-is i h)) }
+      record {
+        same-pins = λ i. record { clock = ag .same-C i; input = ag .same-D i; protect = ag .same-W i; hold = ag .same-HOLD i };
+        same-wel = ag .same-enabled;
+        same-cells = λ i h. m .now-is i h ∙ (ag .same-cells i h ∙ sym (m′ .now-is i h));
+      }
 
 -- the tie of a fit chip to its journal
 tie-of : (p : Shape) → Lawful p → (birth : List ℕ) (h : List Call) (v : View) → v ≡ chip-after p birth h → unfit p (v .cells) ≡ None → Tracks p birth (journal-after p birth h) v
@@ -115,12 +124,18 @@ module _ (p : Shape) (lw : Lawful p) (u v : View) (x y : Unit {0}) (ok : Ok x �
 
   pub compared-same : Equal p u v → Compared p u v (Ok Same)
   compared-same q =
-      record { faults = sym no-fault; answer = ((rest, rest′), q);
+      record {
+        faults = sym no-fault;
+        answer = ((rest, rest′), q);
         alike = λ birth birth′ h h′ bs bs′ e e′. ((λ _. equal-alike birth birth′ h h′ bs bs′ e e′ q), λ z. absurd (true≢false (ap is-same z)));
-        law = same-law p lw u v }
+        law = same-law p lw u v;
+      }
 
   pub compared-different : (Equal p u v → ⊥) → Compared p u v (Ok Different)
   compared-different n =
-      record { faults = sym no-fault; answer = ((rest, rest′), n);
+      record {
+        faults = sym no-fault;
+        answer = ((rest, rest′), n);
         alike = λ birth birth′ h h′ bs bs′ e e′. ((λ z. absurd (true≢false (sym (ap is-same z)))), λ _ al. n (alike-equal birth birth′ h h′ bs bs′ e e′ al));
-        law = same-law p lw u v }
+        law = same-law p lw u v;
+      }

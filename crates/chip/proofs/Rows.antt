@@ -91,11 +91,12 @@ laid-cells p xs at bytes = take-laid (cell-count p) xs at bytes
 -- and leaves the rest
 pub laid-kept : {B : Type 0} (p : Shape) (row past : B → List ℕ) (held : B → List GName) (x y : B) (at len : ℕ) (bytes : List (Option ℕ)) → at + len ≤ cell-count p → row y ≡ laid (row x) at (take len bytes) → held y ≡ held x → past y ≡ past x → Kept p row past held x y
 laid-kept p row past held x y at len bytes h e hs ps =
-    record
-        { same-held = hs
-        ; same-past = ps
-        ; same-length = ap length e ∙ length-laid (row x) at (take len bytes)
-        ; same-rest = ap (drop (cell-count p)) e ∙ drop-laid (cell-count p) (row x) at (take len bytes) (omega (arith, length-take len bytes)) }
+    record {
+      same-held = hs;
+      same-past = ps;
+      same-length = ap length e ∙ length-laid (row x) at (take len bytes);
+      same-rest = ap (drop (cell-count p)) e ∙ drop-laid (cell-count p) (row x) at (take len bytes) (omega (arith, length-take len bytes));
+    }
 
 -- the end of a cycle
 pub ended-view : (p : Shape) (v : View) (w : Pending) (xs ys : List ℕ) (at len : ℕ) → v .cells ≡ cells-of p xs → v .cycle ≡ Busy w → at ≡ base p (w .target) (w .start) → len ≡ reach p (w .target) → ys ≡ laid xs at (take len (w .bytes)) →
@@ -103,8 +104,8 @@ pub ended-view : (p : Shape) (v : View) (w : Pending) (xs ys : List ℕ) (at len
 ended-view p v w xs ys at len q m ea el e =
     let F : List ℕ → View = λ cs. record { pins = v .pins; wel = false; cycle = Idle; stretch = v .stretch; shift = v .shift; cells = cs } in
     ap F (ap (cells-of p) e
-      ∙ laid-cells p xs at (take len (w .bytes))
-      ∙ ap (λ zs. laid zs at (take len (w .bytes))) (sym q)
-      ∙ ap (λ k. laid (v .cells) k (take len (w .bytes))) ea
-      ∙ ap (λ k. laid (v .cells) (base p (w .target) (w .start)) (take k (w .bytes))) el)
+    ∙ laid-cells p xs at (take len (w .bytes))
+    ∙ ap (λ zs. laid zs at (take len (w .bytes))) (sym q)
+    ∙ ap (λ k. laid (v .cells) k (take len (w .bytes))) ea
+    ∙ ap (λ k. laid (v .cells) (base p (w .target) (w .start)) (take k (w .bytes))) el)
     ∙ ap (ended p v) (sym m)

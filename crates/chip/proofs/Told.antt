@@ -31,7 +31,8 @@ pub event-law : (p : Shape) → Lawful p → (u v : View) (k l : ℕ) (r : Resul
 event-law p law u v k l r says view birth h e =
     record {
       answer = says ∙ ap (λ w. outcome p w (event k l) .says) e ∙ ap (head-or (Ok 0)) (answers-stand p law birth h (send k l ∷ []));
-      cells = cells-more p law birth h (event k l) u v e view }
+      cells = cells-more p law birth h (event k l) u v e view;
+    }
 
 pub capture-law : (p : Shape) → Lawful p → (u v : View) (bytes old new : List ℕ) (room : ℕ) (r : Result ℕ Fault) → r ≡ outcome p u (capture bytes room) .says → new ≡ written (outcome p u (capture bytes room) .levels) old → v ≡ outcome p u (capture bytes room) .view → Capture-law p u v bytes old new room r
 capture-law p law u v bytes old new room r says answers view birth h e =
@@ -39,4 +40,5 @@ capture-law p law u v bytes old new room r says answers view birth h e =
     record {
       answer = says ∙ ap (λ w. outcome p w (capture bytes room) .says) e ∙ c .1;
       levels = answers ∙ ap (λ w. written (outcome p w (capture bytes room) .levels) old) e ∙ ap (λ qs. written qs old) (c .0);
-      cells = cells-more p law birth h (capture bytes room) u v e view }
+      cells = cells-more p law birth h (capture bytes room) u v e view;
+    }

@@ -31,11 +31,20 @@ impl<'a, P: Part, B: Backing> Chip<'a, P, B> {
     {
         Chip {
             backing,
-            pins: Pins { clock: false, input: false, protect: true, hold: true },
+            pins: Pins {
+                clock: false,
+                input: false,
+                protect: true,
+                hold: true,
+            },
             wel: false,
             cycle: Cycle::Idle,
             stretch: Phase::Deselected,
-            shift: Shift { held: false, shown: Level::Float, sample: 0 },
+            shift: Shift {
+                held: false,
+                shown: Level::Float,
+                sample: 0,
+            },
             part: PhantomData,
         }
     }

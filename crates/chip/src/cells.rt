@@ -46,7 +46,11 @@ fn judge_cells(status: u8, lock: u8) -> Option<Refusal>
     if keep(status) != status {
         return Some(Refusal::StatusBits);
     }
-    if lock > 1 { Some(Refusal::LockValue) } else { None }
+    if lock > 1 {
+        Some(Refusal::LockValue)
+    } else {
+        None
+    }
 }
 
 // Making's refusals: whether the row can be the part's cells.
@@ -72,11 +76,21 @@ pub fn takes<P: Part, B: Backing>(backing: &B, protect: bool, page: &Page) -> Re
 {
     let status = status::<P, B>(backing)?;
     let lock = lock::<P, B>(backing)?;
-    Ok(page.counts(places::is_open::<P>(status, page.start), protect, status, lock))
+    Ok(page.counts(
+        places::is_open::<P>(status, page.start),
+        protect,
+        status,
+        lock,
+    ))
 }
 
 // Puts the bytes of a write into the row, from `base` on.
-pub fn lay<B: Backing>(backing: &mut B, base: usize, len: usize, bytes: &[Option<u8>; 256]) -> Result<(), Fault>
+pub fn lay<B: Backing>(
+    backing: &mut B,
+    base: usize,
+    len: usize,
+    bytes: &[Option<u8>; 256],
+) -> Result<(), Fault>
     requires { ⌜ (base < 2 ^ 32) × (len ≤ 256) × (base + len ≤ length (B·Backing .row (now backing))) ⌝ }
     ensures made { λ r. ⌜ r ≡ Ok tt ⌝ }
     ensures row { λ _. ⌜ B·Backing .row (now (backing .exit)) ≡ laid (B·Backing .row (now (backing .entry))) base (take len (now (bytes .entry))) ⌝ }

@@ -14,7 +14,11 @@ use backing::image::ImageBacking;
 use backing::row::Backing;
 
 // Runs a capture on a new chip over any backing.
-fn run_on<P: Part, B: Backing>(backing: &mut B, records: &[u8], answers: &mut [u8]) -> Result<usize, Fault>
+fn run_on<P: Part, B: Backing>(
+    backing: &mut B,
+    records: &[u8],
+    answers: &mut [u8],
+) -> Result<usize, Fault>
     ensures says { λ r. ⌜ r ≡ outcome (P·Part .shape) (born (P·Part .shape) (B·Backing .row (now (backing .entry)))) (capturing (now (records .entry)) (length (now (answers .entry)))) .says ⌝ }
     ensures answers { λ _. ⌜ now (answers .exit) ≡ written (outcome (P·Part .shape) (born (P·Part .shape) (B·Backing .row (now (backing .entry)))) (capturing (now (records .entry)) (length (now (answers .entry)))) .levels) (now (answers .entry)) ⌝ }
     ensures cells { λ _. ⌜ cells-of (P·Part .shape) (B·Backing .row (now (backing .exit))) ≡ outcome (P·Part .shape) (born (P·Part .shape) (B·Backing .row (now (backing .entry)))) (capturing (now (records .entry)) (length (now (answers .entry)))) .view .cells ⌝ }
@@ -26,7 +30,11 @@ fn run_on<P: Part, B: Backing>(backing: &mut B, records: &[u8], answers: &mut [u
 }
 
 // Runs a capture on the caller's bytes: they then hold the cells, and past them what they held.
-pub fn run_on_bytes<P: Part>(bytes: &mut [u8], records: &[u8], answers: &mut [u8]) -> Result<usize, Fault>
+pub fn run_on_bytes<P: Part>(
+    bytes: &mut [u8],
+    records: &[u8],
+    answers: &mut [u8],
+) -> Result<usize, Fault>
     ensures says { λ r. ⌜ r ≡ outcome (P·Part .shape) (born (P·Part .shape) (imaged (now (bytes .entry)))) (capturing (now (records .entry)) (length (now (answers .entry)))) .says ⌝ }
     ensures answers { λ _. ⌜ now (answers .exit) ≡ written (outcome (P·Part .shape) (born (P·Part .shape) (imaged (now (bytes .entry)))) (capturing (now (records .entry)) (length (now (answers .entry)))) .levels) (now (answers .entry)) ⌝ }
     ensures cells { λ _. ⌜ cells-of (P·Part .shape) (imaged (now (bytes .exit))) ≡ outcome (P·Part .shape) (born (P·Part .shape) (imaged (now (bytes .entry)))) (capturing (now (records .entry)) (length (now (answers .entry)))) .view .cells ⌝ }

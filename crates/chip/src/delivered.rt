@@ -4,7 +4,9 @@ ghost use Rattle.laws.specs.Bench.{delivered};
 
 // All cells of a bench part, and the first places of its unique ID and its status cell.
 pub const CELLS: usize = 4370;
+
 const UNIQUE: usize = 4352;
+
 const STATUS: usize = 4368;
 
 // FFh in array and identification page, 00h to 0Fh as unique ID, 0 in the status and the lock cell.

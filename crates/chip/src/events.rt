@@ -53,7 +53,11 @@ impl<'a, P: Part, B: Backing> Chip<'a, P, B> {
         ensures same { λ _. ⌜ now (self .exit) .backing ≡ now (self .entry) .backing ⌝ }
     {
         self.stretch = Phase::Deselected;
-        self.shift = Shift { held: false, shown: Level::Float, sample: 0 };
+        self.shift = Shift {
+            held: false,
+            shown: Level::Float,
+            sample: 0,
+        };
     }
 
     // The status byte, where it is due: at bit 0 of an output byte, the highest.
@@ -140,7 +144,12 @@ impl<'a, P: Part, B: Backing> Chip<'a, P, B> {
     {
         if let Cycle::Busy(write) = &self.cycle {
             let base = places::base_of::<P>(write.target, write.start);
-            cells::lay(self.backing, base, places::reach_of::<P>(write.target), &write.bytes)?;
+            cells::lay(
+                self.backing,
+                base,
+                places::reach_of::<P>(write.target),
+                &write.bytes,
+            )?;
             self.cycle = Cycle::Idle;
             self.wel = false;
         }
@@ -159,7 +168,11 @@ impl<'a, P: Part, B: Backing> Chip<'a, P, B> {
             (_, Event::Select(true)) => return self.select_rise(),
             (phase, Event::Select(false)) => {
                 *phase = Phase::Instruction(0, 0);
-                self.shift = Shift { held: !self.pins.clock && !self.pins.hold, shown: Level::Float, sample: 0 };
+                self.shift = Shift {
+                    held: !self.pins.clock && !self.pins.hold,
+                    shown: Level::Float,
+                    sample: 0,
+                };
             }
             (_, Event::Clock(true)) if self.shift.held => self.pins.clock = true,
             (Phase::Instruction(n, value), Event::Clock(true)) => {

@@ -6,6 +6,7 @@ use rules::state::IdentPage;
 
 pub trait Part {
     const ADDRESS_BITS: u32;
+
     const IDENT_PAGE: IdentPage;
 
     ghost shape: { Shape };
@@ -23,6 +24,7 @@ pub struct Cm01;
 
 pub impl Part for Cm01 as Cm01Part {
     const ADDRESS_BITS: u32 = 17;
+
     const IDENT_PAGE: IdentPage = IdentPage::Long;
 
     ghost shape = { record { bits = 17; ident = 256 } };
@@ -40,6 +42,7 @@ pub struct Cm02;
 
 pub impl Part for Cm02 as Cm02Part {
     const ADDRESS_BITS: u32 = 18;
+
     const IDENT_PAGE: IdentPage = IdentPage::Long;
 
     ghost shape = { record { bits = 18; ident = 256 } };
@@ -57,6 +60,7 @@ pub struct Bench;
 
 pub impl Part for Bench as BenchPart {
     const ADDRESS_BITS: u32 = 12;
+
     const IDENT_PAGE: IdentPage = IdentPage::Long;
 
     ghost shape = { record { bits = 12; ident = 256 } };

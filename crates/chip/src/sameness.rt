@@ -49,7 +49,10 @@ fn same_cells<P: Part, A: Backing, B: Backing>(a: &A, b: &B) -> Result<bool, Fau
 }
 
 // Whether two chips of one part are the same, whatever their backings.
-pub fn same<'a, 'b, P: Part, A: Backing, B: Backing>(a: &Chip<'a, P, A>, b: &Chip<'b, P, B>) -> Result<Comparison, Fault>
+pub fn same<'a, 'b, P: Part, A: Backing, B: Backing>(
+    a: &Chip<'a, P, A>,
+    b: &Chip<'b, P, B>,
+) -> Result<Comparison, Fault>
     ensures { λ r. ⌜ Compared (P·Part .shape) (view-of (P·Part .shape) (A·Backing .row) (now (a .entry))) (view-of (P·Part .shape) (B·Backing .row) (now (b .entry))) r ⌝ }
 {
     cells::making::<P, A>(a.backing)?;

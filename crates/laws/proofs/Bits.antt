@@ -152,7 +152,7 @@ address-short ident acc wel [] n v lt = ap (λ m. Address acc wel m v) (omega ar
 address-short ident acc wel (b ∷ bs) n v lt =
     ap (λ ph. goes-on ident ph bs) (address-more ident acc wel b n v (omega arith)) ∙
     (address-short ident acc wel bs (n + 1) (pushed-address v b) (omega arith) ∙
-     ap (λ m. Address acc wel m (pushes-address (pushed-address v b) bs)) (omega arith))
+    ap (λ m. Address acc wel m (pushes-address (pushed-address v b) bs)) (omega arith))
 
 -- fewer than 24 bits, and 24 with what follows
 pub address-part : (ident : ℕ) (acc : Access) (wel : Bool) (rest : List Bool) → length rest < 24 →
@@ -162,7 +162,7 @@ address-part ident acc wel rest lt =
     let le : 2 ^ length rest ≤ 2 ^ 24 = pow-le-pow-right {n = 2} (omega arith) {i = length rest} {j = 24} (omega arith) in
     address-short ident acc wel rest 0 0 (omega arith) ∙
     (ap (λ m. Address acc wel m (pushes-address 0 rest)) (omega arith) ∙
-     ap (λ v. Address acc wel (length rest) v) (pushes-address-is 0 rest (omega arith)))
+    ap (λ v. Address acc wel (length rest) v) (pushes-address-is 0 rest (omega arith)))
 
 pub address-full : (ident : ℕ) (acc : Access) (wel : Bool) (rest : List Bool) → 24 ≤ length rest →
     goes-on ident (Address acc wel 0 0) rest ≡ goes-on ident (aimed ident acc wel (number (take 24 rest))) (drop 24 rest)
@@ -172,7 +172,7 @@ address-full ident acc wel rest ge =
     let small : number (take 24 rest) < 16777216 = subst P l24 (number-lt (take 24 rest)) in
     ap (λ x. goes-on ident (Address acc wel 0 0) x) (sym (take-append-drop 24 rest)) ∙
     (address-whole ident acc wel (take 24 rest) (drop 24 rest) 0 0 (omega arith) (omega arith) ∙
-     ap (λ v. goes-on ident (aimed ident acc wel v) (drop 24 rest)) (pushes-address-is 0 (take 24 rest) small))
+    ap (λ v. goes-on ident (aimed ident acc wel v) (drop 24 rest)) (pushes-address-is 0 (take 24 rest) small))
 
 -- ---- data bits
 
@@ -209,13 +209,14 @@ rolls-in pg at last (b ∷ bs) = rolls-in (set pg at (Some b)) (rolled at last) 
 -- the first n places of a page that rolls at n - 1 are a page of n
 pub rolled-is : (at last n : ℕ) → last + 1 ≡ n → at < n → rolled at last ≡ (at + 1) % n
 rolled-is at last n e lt =
-    elim (cases-lt at last)
-        [ inl l ↦
-            let small : (at + 1) % n ≡ at + 1 = mod-eq-of-lt (omega arith) in
-            ap (λ t. elim t as (λ _. ℕ) [ true ↦ at + 1 | false ↦ 0 ]) (lt-ltb at last l) ∙ sym small
-        | inr g ↦
-            let q : at + 1 ≡ n = omega arith in
-            ap (λ t. elim t as (λ _. ℕ) [ true ↦ at + 1 | false ↦ 0 ]) (le-ltb at last g) ∙ sym (ap (λ x. x % n) q ∙ mod-self n) ]
+    elim (cases-lt at last) [
+      | inl l ↦
+          let small : (at + 1) % n ≡ at + 1 = mod-eq-of-lt (omega arith) in
+          ap (λ t. elim t as (λ _. ℕ) [ true ↦ at + 1 | false ↦ 0 ]) (lt-ltb at last l) ∙ sym small
+      | inr g ↦
+          let q : at + 1 ≡ n = omega arith in
+          ap (λ t. elim t as (λ _. ℕ) [ true ↦ at + 1 | false ↦ 0 ]) (le-ltb at last g) ∙ sym (ap (λ x. x % n) q ∙ mod-self n)
+    ]
 
 rolls-cut : (n last : ℕ) → last + 1 ≡ n → (bs : List ℕ) (pg : List (Option ℕ)) (at : ℕ) → n ≤ length pg → at < n →
     take n (rolls-in pg at last bs) ≡ placed (take n pg) at bs
@@ -228,7 +229,7 @@ rolls-cut n last e (b ∷ bs) pg at le lt =
     rolls-cut n last e bs (set pg at (Some b)) (rolled at last) (omega arith) (omega arith) ∙
     (ap (λ x. placed x (rolled at last) bs) (take-set-lt n pg at (Some b) lt) ∙
     (ap (λ x. placed (set (take n pg) at (Some b)) x bs) r ∙
-     ap (λ m. placed (set (take n pg) at (Some b)) ((at + 1) % m) bs) (sym len)))
+    ap (λ m. placed (set (take n pg) at (Some b)) ((at + 1) % m) bs) (sym len)))
 
 -- fewer than eight bits
 input-more : (ident : ℕ) (t : Target) (wel b : Bool) (start at last k v : ℕ) (got : Got) (pg : List (Option ℕ)) → k < 7 →
@@ -242,7 +243,7 @@ input-part ident t wel start at last got pg [] k v lt = ap (λ n. Input (sheet t
 input-part ident t wel start at last got pg (b ∷ bs) k v lt =
     ap (λ ph. goes-on ident ph bs) (input-more ident t wel b start at last k v got pg (omega arith)) ∙
     (input-part ident t wel start at last got pg bs (k + 1) (pushed v b) (omega arith) ∙
-     ap (λ n. Input (sheet t wel start at last n (pushes (pushed v b) bs) got pg)) (omega arith))
+    ap (λ n. Input (sheet t wel start at last n (pushes (pushed v b) bs) got pg)) (omega arith))
 
 -- some bits over
 input-over : (ident : ℕ) (t : Target) (wel : Bool) (start at last : ℕ) (got : Got) (pg : List (Option ℕ)) (a : Bool) (bs : List Bool) → length bs < 7 →
@@ -260,7 +261,7 @@ input-byte : (ident : ℕ) (t : Target) (wel : Bool) (start at last : ℕ) (got 
     goes-on ident (Input (sheet t wel start (rolled at last) last 0 0 (one-more got) (set pg at (Some (of-eight a b c d e f g h))))) bs
 input-byte ident t wel start at last got pg a b c d e f g h bs =
     ap (λ v. goes-on ident (Input (sheet t wel start (rolled at last) last 0 0 (one-more got) (set pg at (Some v)))) bs)
-        (pushes-is 0 (a ∷ b ∷ c ∷ d ∷ e ∷ f ∷ g ∷ h ∷ []) (number-lt (a ∷ b ∷ c ∷ d ∷ e ∷ f ∷ g ∷ h ∷ [])))
+    (pushes-is 0 (a ∷ b ∷ c ∷ d ∷ e ∷ f ∷ g ∷ h ∷ []) (number-lt (a ∷ b ∷ c ∷ d ∷ e ∷ f ∷ g ∷ h ∷ [])))
 
 -- where data bits lead
 data Led (t : Target) (wel : Bool) (start at last : ℕ) (got : Got) (pg : List (Option ℕ)) (bs : List Bool) (ph : Phase) : Type 0 where
@@ -273,7 +274,7 @@ led ident t wel start last done at got pg = whole at refl refl
 led ident t wel start last (byte a b c d e f g h {bs} ch) at got pg =
     let one : goes-on ident (Input (sheet t wel start at last 0 0 got pg)) (a ∷ b ∷ c ∷ d ∷ e ∷ f ∷ g ∷ h ∷ bs) ≡ goes-on ident (Input (sheet t wel start (rolled at last) last 0 0 (one-more got) (set pg at (Some (of-eight a b c d e f g h))))) bs = input-byte ident t wel start at last got pg a b c d e f g h bs in
     elim (led ident t wel start last ch (rolled at last) (one-more got) (set pg at (Some (of-eight a b c d e f g h))))
-        [ whole at′ e8 q ↦ whole at′ (omega arith) (one ∙ q) | ragged at′ k v got′ pg′ ne q ↦ ragged at′ k v got′ pg′ (λ z. ne (omega arith)) (one ∙ q) ]
+    [ whole at′ e8 q ↦ whole at′ (omega arith) (one ∙ q) | ragged at′ k v got′ pg′ ne q ↦ ragged at′ k v got′ pg′ (λ z. ne (omega arith)) (one ∙ q) ]
 led ident t wel start last (ends a bs lt) at got pg =
     ragged at (length bs) (pushes (pushed 0 a) bs) got pg (λ z. omega arith) (input-over ident t wel start at last got pg a bs lt)
 
@@ -305,7 +306,7 @@ module _ (p : Shape) (w : Bool) (st lk : ℕ) where
   output-none r [] a k = refl
   output-none r (b ∷ bs) a k =
       elim (ltb k 7) as (λ t. entry p w st lk (goes-on (p .ident) (elim t as (λ _. Phase) [ true ↦ Output r a (k + 1) | false ↦ Output r ((a + 1) % 4294967296) 0 ]) bs) ≡ [])
-          [ true ↦ output-none r bs a (k + 1) | false ↦ output-none r bs ((a + 1) % 4294967296) 0 ]
+      [ true ↦ output-none r bs a (k + 1) | false ↦ output-none r bs ((a + 1) % 4294967296) 0 ]
 
   -- a write with the latch clear
   disabled : (t : Target) (start last : ℕ) (bs : List Bool) (at k v : ℕ) (got : Got) (pg : List (Option ℕ)) →
@@ -313,7 +314,7 @@ module _ (p : Shape) (w : Bool) (st lk : ℕ) where
   disabled t start last [] at k v got pg = refl
   disabled t start last (b ∷ bs) at k v got pg =
       elim (ltb k 7) as (λ x. entry p w st lk (goes-on (p .ident) (Input (elim x as (λ _. Page) [ true ↦ sheet t false start at last (k + 1) (pushed v b) got pg | false ↦ sheet t false start (rolled at last) last 0 0 (one-more got) (set pg at (Some (pushed v b))) ])) bs) ≡ [])
-          [ true ↦ disabled t start last bs at (k + 1) (pushed v b) got pg | false ↦ disabled t start last bs (rolled at last) 0 0 (one-more got) (set pg at (Some (pushed v b))) ]
+      [ true ↦ disabled t start last bs at (k + 1) (pushed v b) got pg | false ↦ disabled t start last bs (rolled at last) 0 0 (one-more got) (set pg at (Some (pushed v b))) ]
 
   uneven : (t : Target) (start at last k v : ℕ) (got : Got) (pg : List (Option ℕ)) → entry p w st lk (Input (sheet t true start at last (suc k) v got pg)) ≡ []
   uneven t start at last k v got pg =
@@ -325,16 +326,17 @@ module _ (p : Shape) (w : Bool) (st lk : ℕ) where
       {bs : List Bool} → Chunks bs →
       entry p w st lk (goes-on (p .ident) (Input (sheet t true start at last 0 0 Nothing pg)) bs) ≡ if-so (whole-bytes bs && x) (wrote (base p t start) (placed (take n pg) at (bytes-in bs)))
   paged t start at last n pg x en le lt cs ls {bs} ch =
-      elim (led (p .ident) t true start last ch at Nothing pg)
-          [ whole at′ e q ↦
-              let P : List (Option ℕ) = rolls-in pg at last (bytes-in bs) in
-              let g : Got = gots Nothing (bytes-in bs) in
-              ap (entry p w st lk) q ∙ (ap (λ z. if-so z (wrote (base p t start) (laid-by t P))) (cs g (head-byte P)) ∙
-              (ap (λ z. if-so (z && x) (wrote (base p t start) (laid-by t P))) (some-by ch e) ∙
-               ap (λ z. if-so (whole-bytes bs && x) (wrote (base p t start) z)) (ls P ∙ rolls-cut n last en (bytes-in bs) pg at le lt)))
-          | ragged at′ k v got′ pg′ ne q ↦
-              ap (entry p w st lk) q ∙ (uneven t start at′ last k v got′ pg′ ∙
-              sym (ap (λ z. if-so (z && x) (wrote (base p t start) (placed (take n pg) at (bytes-in bs)))) (and-right (leb 8 (length bs)) (eqb (length bs % 8) 0) (ne-eqb (length bs % 8) 0 ne)))) ]
+      elim (led (p .ident) t true start last ch at Nothing pg) [
+        | whole at′ e q ↦
+            let P : List (Option ℕ) = rolls-in pg at last (bytes-in bs) in
+            let g : Got = gots Nothing (bytes-in bs) in
+            ap (entry p w st lk) q ∙ (ap (λ z. if-so z (wrote (base p t start) (laid-by t P))) (cs g (head-byte P)) ∙
+            (ap (λ z. if-so (z && x) (wrote (base p t start) (laid-by t P))) (some-by ch e) ∙
+            ap (λ z. if-so (whole-bytes bs && x) (wrote (base p t start) z)) (ls P ∙ rolls-cut n last en (bytes-in bs) pg at le lt)))
+        | ragged at′ k v got′ pg′ ne q ↦
+            ap (entry p w st lk) q ∙ (uneven t start at′ last k v got′ pg′ ∙
+            sym (ap (λ z. if-so (z && x) (wrote (base p t start) (placed (take n pg) at (bytes-in bs)))) (and-right (leb 8 (length bs)) (eqb (length bs % 8) 0) (ne-eqb (length bs % 8) 0 ne))))
+      ]
 
   -- the targets of one byte: y is what they ask of it besides, l what they lay
   single : (t : Target) (start : ℕ) (y : ℕ → Bool) (l : ℕ → List (Option ℕ)) (o : Option ℕ) (os : List (Option ℕ)) →
@@ -353,13 +355,14 @@ module _ (p : Shape) (w : Bool) (st lk : ℕ) where
       let no8 : eqb (length all) 8 ≡ false = ne-eqb (length all) 8 (omega arith) in
       let right : if-so (eqb (length all) 8 && y (number all)) (wrote (base p t start) (l (number all))) ≡ [] = ap (λ z. if-so (z && y (number all)) (wrote (base p t start) (l (number all)))) no8 in
       ap (entry p w st lk) (input-byte (p .ident) t true start 0 0 Nothing (o ∷ os) a b c d e f g h (a′ ∷ b′ ∷ c′ ∷ d′ ∷ e′ ∷ f′ ∷ g′ ∷ h′ ∷ bs) ∙
-          input-byte (p .ident) t true start 0 0 One (Some n ∷ os) a′ b′ c′ d′ e′ f′ g′ h′ bs) ∙
-      elim (led (p .ident) t true start 0 ch 0 More (Some n′ ∷ os))
-          [ whole at′ ev q ↦
-              let P : List (Option ℕ) = rolls-in (Some n′ ∷ os) 0 0 (bytes-in bs) in
-              ap (entry p w st lk) q ∙ (ap (λ z. if-so z (wrote (base p t start) (laid-by t P))) (cs (gots More (bytes-in bs)) (head-byte P)) ∙
-              (ap (λ z. if-so (z && y (head-byte P)) (wrote (base p t start) (laid-by t P))) (single-more (bytes-in bs)) ∙ sym right))
-          | ragged at′ k v got′ pg′ ne q ↦ ap (entry p w st lk) q ∙ (uneven t start at′ 0 k v got′ pg′ ∙ sym right) ]
+      input-byte (p .ident) t true start 0 0 One (Some n ∷ os) a′ b′ c′ d′ e′ f′ g′ h′ bs) ∙
+      elim (led (p .ident) t true start 0 ch 0 More (Some n′ ∷ os)) [
+        | whole at′ ev q ↦
+            let P : List (Option ℕ) = rolls-in (Some n′ ∷ os) 0 0 (bytes-in bs) in
+            ap (entry p w st lk) q ∙ (ap (λ z. if-so z (wrote (base p t start) (laid-by t P))) (cs (gots More (bytes-in bs)) (head-byte P)) ∙
+            (ap (λ z. if-so (z && y (head-byte P)) (wrote (base p t start) (laid-by t P))) (single-more (bytes-in bs)) ∙ sym right))
+        | ragged at′ k v got′ pg′ ne q ↦ ap (entry p w st lk) q ∙ (uneven t start at′ 0 k v got′ pg′ ∙ sym right)
+      ]
   single t start y l o os cs ls (byte a b c d e f g h (ends a′ bs lt)) =
       let all : List Bool = a ∷ b ∷ c ∷ d ∷ e ∷ f ∷ g ∷ h ∷ a′ ∷ bs in
       let n : ℕ = of-eight a b c d e f g h in
@@ -377,11 +380,12 @@ module _ (p : Shape) (w : Bool) (st lk : ℕ) where
       ((a : ℕ) (ds : List Bool) → entry p w st lk (goes-on (p .ident) (aimed (p .ident) acc wel a) ds) ≡ f a ds) →
       (rest : List Bool) → entry p w st lk (goes-on (p .ident) (Address acc wel 0 0) rest) ≡ f (number (take 24 rest)) (drop 24 rest)
   by-address acc wel f none each rest =
-      elim (cases-lt (length rest) 24)
-          [ inl lt ↦
-              ap (entry p w st lk) (address-part (p .ident) acc wel rest lt) ∙
-              sym (ap (f (number (take 24 rest))) (drop-all 24 rest (omega arith)) ∙ none (number (take 24 rest)))
-          | inr ge ↦ ap (entry p w st lk) (address-full (p .ident) acc wel rest ge) ∙ each (number (take 24 rest)) (drop 24 rest) ]
+      elim (cases-lt (length rest) 24) [
+        | inl lt ↦
+            ap (entry p w st lk) (address-part (p .ident) acc wel rest lt) ∙
+            sym (ap (f (number (take 24 rest))) (drop-all 24 rest (omega arith)) ∙ none (number (take 24 rest)))
+        | inr ge ↦ ap (entry p w st lk) (address-full (p .ident) acc wel rest ge) ∙ each (number (take 24 rest)) (drop 24 rest)
+      ]
 
   silent : (acc : Access) (wel : Bool) → ((a : ℕ) (ds : List Bool) → entry p w st lk (goes-on (p .ident) (aimed (p .ident) acc wel a) ds) ≡ []) →
       (rest : List Bool) → entry p w st lk (goes-on (p .ident) (Address acc wel 0 0) rest) ≡ []
@@ -390,12 +394,12 @@ module _ (p : Shape) (w : Bool) (st lk : ℕ) where
   ident-read : (wel : Bool) (a : ℕ) (ds : List Bool) → entry p w st lk (goes-on (p .ident) (aimed (p .ident) access.ReadIdent wel a) ds) ≡ []
   ident-read wel a ds =
       elim (a10 a) as (λ z. entry p w st lk (goes-on (p .ident) (elim z as (λ _. Phase) [ true ↦ Output region.Lock a 0 | false ↦ Output region.Ident a 0 ]) ds) ≡ [])
-          [ true ↦ output-none region.Lock ds a 0 | false ↦ output-none region.Ident ds a 0 ]
+      [ true ↦ output-none region.Lock ds a 0 | false ↦ output-none region.Ident ds a 0 ]
 
   ident-disabled : (a : ℕ) (ds : List Bool) → entry p w st lk (goes-on (p .ident) (aimed (p .ident) access.WriteIdent false a) ds) ≡ []
   ident-disabled a ds =
       elim (a10 a) as (λ z. entry p w st lk (goes-on (p .ident) (elim z as (λ _. Phase) [ true ↦ Input (empty target.Lock false a 0 0) | false ↦ Input (empty target.Ident false a (a % p .ident) (p .ident - 1)) ]) ds) ≡ [])
-          [ true ↦ disabled target.Lock a 0 ds 0 0 0 Nothing (replicate 256 None) | false ↦ disabled target.Ident a (p .ident - 1) ds (a % p .ident) 0 0 Nothing (replicate 256 None) ]
+      [ true ↦ disabled target.Lock a 0 ds 0 0 0 Nothing (replicate 256 None) | false ↦ disabled target.Ident a (p .ident - 1) ds (a % p .ident) 0 0 Nothing (replicate 256 None) ]
 
   -- what each write lists, by its address and its data bits
   abbrev written : ℕ → List Bool → List Entry
@@ -422,11 +426,12 @@ module _ (p : Shape) (w : Bool) (st lk : ℕ) where
   ident-in : 0 < p .ident → p .ident ≤ 256 → (a : ℕ) (ds : List Bool) → entry p w st lk (goes-on (p .ident) (aimed (p .ident) access.WriteIdent true a) ds) ≡ ident-or-lock a ds
   ident-in pos few a ds =
       let len : length (replicate {A = Option ℕ} 256 None) ≡ 256 = length-replicate {A = Option ℕ} 256 None in
-      elim (a10 a) as (λ z. entry p w st lk (goes-on (p .ident) (elim z as (λ _. Phase) [ true ↦ Input (empty target.Lock true a 0 0) | false ↦ Input (empty target.Ident true a (a % p .ident) (p .ident - 1)) ]) ds) ≡ cond z (locked ds) (ident-written a ds))
-          [ true ↦ single target.Lock a (λ b. locks st b) (λ b. Some 1 ∷ []) None (replicate 255 None) (λ got b. refl) (λ n. refl) (chunks ds)
-          | false ↦
-              paged target.Ident a (a % p .ident) (p .ident - 1) (p .ident) (replicate 256 None) (ident-open st lk) (omega arith) (omega arith) (mod-below a (p .ident) pos) (λ got b. refl) (λ q. refl) (chunks ds) ∙
-              ap (λ x. if-so (whole-bytes ds && ident-open st lk) (wrote (ident-at p) (placed x (a % p .ident) (bytes-in ds)))) (take-replicate (p .ident) 256 None few) ]
+      elim (a10 a) as (λ z. entry p w st lk (goes-on (p .ident) (elim z as (λ _. Phase) [ true ↦ Input (empty target.Lock true a 0 0) | false ↦ Input (empty target.Ident true a (a % p .ident) (p .ident - 1)) ]) ds) ≡ cond z (locked ds) (ident-written a ds)) [
+        | true ↦ single target.Lock a (λ b. locks st b) (λ b. Some 1 ∷ []) None (replicate 255 None) (λ got b. refl) (λ n. refl) (chunks ds)
+        | false ↦
+            paged target.Ident a (a % p .ident) (p .ident - 1) (p .ident) (replicate 256 None) (ident-open st lk) (omega arith) (omega arith) (mod-below a (p .ident) pos) (λ got b. refl) (λ q. refl) (chunks ds) ∙
+            ap (λ x. if-so (whole-bytes ds && ident-open st lk) (wrote (ident-at p) (placed x (a % p .ident) (bytes-in ds)))) (take-replicate (p .ident) 256 None few)
+      ]
 
   status-in : (ds : List Bool) → entry p w st lk (goes-on (p .ident) (begun true name.Wrsr) ds) ≡ if-so (eqb (length ds) 8 && status-open st w) (wrote (status-at p) (Some (kept (number ds)) ∷ []))
   status-in ds = single target.Status 0 (λ b. status-open st w) (λ b. Some (kept b) ∷ []) None (replicate 255 None) (λ got b. refl) (λ n. refl) (chunks ds)

@@ -48,7 +48,7 @@ fit-answers : (p : Shape) → Lawful p → (birth : List ℕ) → unfit p (take 
 fit-answers p lw birth fit [] j v s = refl
 fit-answers p lw birth fit (send k l ∷ xs) j v s =
     let says : outcome p v (event k l) .says ≡ journal-says p birth j (send k l) =
-        fit-says p v k l (stays-fit p birth j v fit s) ∙ ap as-number (event-alike p lw birth j v s k l) ∙ sym (ap (λ o. first-of o (as-number (note.journal-answer (note.journal-step p birth j k l)))) fit) in
+    fit-says p v k l (stays-fit p birth j v fit s) ∙ ap as-number (event-alike p lw birth j v s k l) ∙ sym (ap (λ o. first-of o (as-number (note.journal-answer (note.journal-step p birth j k l)))) fit) in
     ap (λ a. a ∷ answers p (called p v (event k l)) xs) says
     ∙ ap (λ as′. journal-says p birth j (send k l) ∷ as′) (fit-answers p lw birth fit xs (noted-call p birth j (event k l)) (called p v (event k l)) (call-stands p lw birth fit (event k l) j v s))
 
@@ -56,7 +56,7 @@ unfit-answers : (p : Shape) (birth : List ℕ) (r : Refusal) → unfit p (take (
 unfit-answers p birth r e [] j v f = refl
 unfit-answers p birth r e (send k l ∷ xs) j v f =
     let says : outcome p v (event k l) .says ≡ journal-says p birth j (send k l) =
-        unfit-call p r v f (event k l) .1 ∙ sym (ap (λ o. first-of o (as-number (note.journal-answer (note.journal-step p birth j k l)))) e) in
+    unfit-call p r v f (event k l) .1 ∙ sym (ap (λ o. first-of o (as-number (note.journal-answer (note.journal-step p birth j k l)))) e) in
     ap (λ a. a ∷ answers p (called p v (event k l)) xs) says
     ∙ ap (λ u. journal-says p birth j (send k l) ∷ answers p u xs) (unfit-call p r v f (event k l) .0)
     ∙ ap (λ as′. journal-says p birth j (send k l) ∷ as′) (unfit-answers p birth r e xs (noted-call p birth j (event k l)) v f)
@@ -83,11 +83,12 @@ row-length p birth cells e =
 
 row-past : (p : Shape) (birth cells : List ℕ) → length cells ≡ length (take (cell-count p) birth) → drop (cell-count p) (cells ++ drop (cell-count p) birth) ≡ drop (cell-count p) birth
 row-past p birth cells e =
-    elim (cases-lt (length birth) (cell-count p))
-    [ inl short ↦
-        drop-all (cell-count p) (cells ++ drop (cell-count p) birth) (under (length (cells ++ drop (cell-count p) birth)) (length birth) (cell-count p) (row-length p birth cells e) short)
-        ∙ sym (drop-all (cell-count p) birth (omega arith))
-    | inr long ↦ drop-at cells (drop (cell-count p) birth) (cell-count p) (e ∙ length-take-le (cell-count p) birth long) ]
+    elim (cases-lt (length birth) (cell-count p)) [
+      | inl short ↦
+          drop-all (cell-count p) (cells ++ drop (cell-count p) birth) (under (length (cells ++ drop (cell-count p) birth)) (length birth) (cell-count p) (row-length p birth cells e) short)
+          ∙ sym (drop-all (cell-count p) birth (omega arith))
+      | inr long ↦ drop-at cells (drop (cell-count p) birth) (cell-count p) (e ∙ length-take-le (cell-count p) birth long)
+    ]
   where
     under : (a b n : ℕ) → a ≡ b → b < n → a ≤ n
     under a b n e h = omega arith
@@ -99,11 +100,13 @@ fit-cells p birth fit j v s = by (s .tie) (stays-fit p birth j v fit s)
     by (tracks ft m) f =
         let long : cell-count p ≤ length (take (cell-count p) birth) = fit-length p (take (cell-count p) birth) fit in
         let count = m .len-is ∙ whole (cell-count p) (length birth) (length (take (cell-count p) birth)) (length-take (cell-count p) birth) long in
-        record { count = count;
+        record {
+          count = count;
           len = row-length p birth _ count;
           past = row-past p birth _ count;
           bytes = λ i h. m .now-is i (subst (λ n. i < n) (m .len-is) h);
-          fitness = f ∙ sym fit }
+          fitness = f ∙ sym fit;
+        }
       where
         whole : (a b c : ℕ) → c ≡ min a b → a ≤ c → a ≡ c
         whole a b c e h = omega arith
@@ -153,7 +156,7 @@ records-told p lw birth (k ∷ l ∷ more) i j v s =
         (elim n as (λ _. Telling) [ note.took x ↦ tells-more (note.q-of x) (journal-tells p birth x (i + 1) more) | note.turned r ↦ record { levels = []; says = Err (raised r i) } ])
     by (taken u) (note.took x) e t go =
         let rest = go u x t in
-        ( ap (λ q. q ∷ records p u (i + 1) more .levels) (ap (level-or (note.q-of x)) e) ∙ ap (λ qs. note.q-of x ∷ qs) (rest .0), rest .1 )
+        (ap (λ q. q ∷ records p u (i + 1) more .levels) (ap (level-or (note.q-of x)) e) ∙ ap (λ qs. note.q-of x ∷ qs) (rest .0), rest .1)
     by (taken u) (note.turned r) e t go = absurd (subst is-level e tt)
     by (refused r) (note.took x) e t go = absurd (subst is-level (sym e) tt)
     by (refused r) (note.turned q) e t go = (refl, ap (λ x. Err (raised x i)) (ap (refusal-or r) e))
@@ -200,7 +203,7 @@ rest-shift (tracks resting m) e = refl
 rest-shift (tracks (young lt) m) e = absurd (both-ways false refl (ap is-off e))
 rest-shift {p} (tracks (old eight rest a wel sample e8 ok so) m) e =
     absurd (both-ways (is-off (goes-on (p .ident) (rule.judged a wel (named (note.number eight))) rest))
-      (late-off (goes-on (p .ident) (rule.judged a wel (named (note.number eight))) rest) (late-old (p .ident) a wel (named (note.number eight)) rest)) (ap is-off e))
+    (late-off (goes-on (p .ident) (rule.judged a wel (named (note.number eight))) rest) (late-old (p .ident) a wel (named (note.number eight)) rest)) (ap is-off e))
 
 -- the bytes of a chip born over a row of bytes
 cells-bytes : (p : Shape) (birth : List ℕ) → Bytes birth → (j : Journal) (v : View) → Stands p birth j v → Bytes (v .cells)
@@ -208,9 +211,10 @@ cells-bytes p birth bs j v s = by (s .tie) (s .sound)
   where
     by : {j : Journal} {v : View} → Tracks p birth j v → Sound-list p (j .entries) → Bytes (v .cells)
     by (tracks {es = es} {cells = cells} ft m) sound i =
-        elim (cases-lt i (cell-count p))
-        [ inl h ↦ subst (λ x. x < 256) (sym (m .now-is i h)) (byte-by p (λ n x. x < 256) (λ n x g. g .byte) birth bs es sound i false)
-        | inr h ↦ subst (λ x. x < 256) (sym (getD-past cells i 0 (subst (λ n. n ≤ i) (sym (m .len-is)) h))) (lit< tt) ]
+        elim (cases-lt i (cell-count p)) [
+          | inl h ↦ subst (λ x. x < 256) (sym (m .now-is i h)) (byte-by p (λ n x. x < 256) (λ n x g. g .byte) birth bs es sound i false)
+          | inr h ↦ subst (λ x. x < 256) (sym (getD-past cells i 0 (subst (λ n. n ≤ i) (sym (m .len-is)) h))) (lit< tt)
+        ]
 
 abbrev is-none : Option Refusal → Type 0
 is-none None = Unit {0}
@@ -228,30 +232,38 @@ birth-fit p birth h f = by (unfit p (take (cell-count p) birth)) refl
 one-view : {p : Shape} {birth birth′ : List ℕ} {j j′ : Journal} {u v : View} → Tracks p birth j u → Tracks p birth′ j′ v → At-rest u → At-rest v → u .shift ≡ v .shift → Agree p birth birth′ j j′ → u ≡ v
 one-view {p} (tracks {cells = cells} ft m) (tracks {cells = cells′} ft′ m′) ru rv sh ag =
     let same : cells ≡ cells′ = ext-getD 0 cells cells′ (m .len-is ∙ sym (m′ .len-is))
-        (λ i h. let k = subst (λ n. i < n) (m .len-is) h in m .now-is i k ∙ (ag .same-cells i k ∙ sym (m′ .now-is i k))) in
+    (λ i h. let k = subst (λ n. i < n) (m .len-is) h in m .now-is i k ∙ (ag .same-cells i k ∙ sym (m′ .now-is i k))) in
     λ i. record {
       pins = record { clock = ag .same-C i; input = ag .same-D i; protect = ag .same-W i; hold = ag .same-HOLD i };
       wel = ag .same-enabled i;
       cycle = (ru .idle ∙ sym (rv .idle)) i;
       stretch = (ru .deselected ∙ sym (rv .deselected)) i;
       shift = sh i;
-      cells = same i }
+      cells = same i;
+    }
 
 -- what is alike agrees
 alike-agree : {p : Shape} {birth birth′ : List ℕ} {j j′ : Journal} {u v : View} → Tracks p birth j u → Tracks p birth′ j′ v →
     (u .pins ≡ v .pins) × (u .wel ≡ v .wel) × ((i : ℕ) → i < cell-count p → getD (u .cells) i 0 ≡ getD (v .cells) i 0) → Agree p birth birth′ j j′
 alike-agree (tracks ft m) (tracks ft′ m′) same =
-    record { same-C = ap (λ x. x .clock) (same .0); same-D = ap (λ x. x .input) (same .0); same-W = ap (λ x. x .protect) (same .0); same-HOLD = ap (λ x. x .hold) (same .0);
-      same-enabled = same .1; same-cells = λ i h. sym (m .now-is i h) ∙ (same .2 i h ∙ m′ .now-is i h) }
+    record {
+      same-C = ap (λ x. x .clock) (same .0);
+      same-D = ap (λ x. x .input) (same .0);
+      same-W = ap (λ x. x .protect) (same .0);
+      same-HOLD = ap (λ x. x .hold) (same .0);
+      same-enabled = same .1;
+      same-cells = λ i h. sym (m .now-is i h) ∙ (same .2 i h ∙ m′ .now-is i h);
+    }
 
 pub sameness-stands : Sameness-stands
 sameness-stands p lw birth birth′ h h′ bs bs′ f f′ r r′ =
     let s = stands p lw birth (birth-fit p birth h f) h in
-    let s′ = stands p lw birth′ (birth-fit p birth′ h′ f′) h′ in
-    ( (λ alike. alike-agree (s .tie) (s′ .tie)
-        (tells p lw (chip-after p birth h) (chip-after p birth′ h′) (r .deselected) (r .idle) (rest-shift (s .tie) (r .deselected)) (r′ .deselected) (r′ .idle) (rest-shift (s′ .tie) (r′ .deselected))
-          (cells-bytes p birth bs _ _ s) (cells-bytes p birth′ bs′ _ _ s′) f f′ alike))
-    , (λ ag xs _. ap (λ v. answers p v xs) (one-view (s .tie) (s′ .tie) r r′ (rest-shift (s .tie) (r .deselected) ∙ sym (rest-shift (s′ .tie) (r′ .deselected))) ag)) )
+    let s′ = stands p lw birth′ (birth-fit p birth′ h′ f′) h′ in (
+      (λ alike. alike-agree (s .tie) (s′ .tie)
+          (tells p lw (chip-after p birth h) (chip-after p birth′ h′) (r .deselected) (r .idle) (rest-shift (s .tie) (r .deselected)) (r′ .deselected) (r′ .idle) (rest-shift (s′ .tie) (r′ .deselected))
+          (cells-bytes p birth bs _ _ s) (cells-bytes p birth′ bs′ _ _ s′) f f′ alike)),
+      (λ ag xs _. ap (λ v. answers p v xs) (one-view (s .tie) (s′ .tie) r r′ (rest-shift (s .tie) (r .deselected) ∙ sym (rest-shift (s′ .tie) (r′ .deselected))) ag)),
+    )
 
 -- ---- a refused capture
 
@@ -262,9 +274,10 @@ fault-record (Err e) = e .«record»
 -- the records after a first one that came to d
 abbrev follow : Shape → View → ℕ → Done → List ℕ → Outcome
 follow p v i d more =
-    elim d as (λ _. Outcome)
-    [ taken u ↦ call.with-level (rule.seen (u .shift)) (records p u (i + 1) more)
-    | refused r ↦ record { view = v; levels = []; says = Err (raised r i) } ]
+    elim d as (λ _. Outcome) [
+      | taken u ↦ call.with-level (rule.seen (u .shift)) (records p u (i + 1) more)
+      | refused r ↦ record { view = v; levels = []; says = Err (raised r i) }
+    ]
 
 -- n records, and then a refused one
 record Stops (p : Shape) (v : View) (i : ℕ) (bytes : List ℕ) (e : Fault) : Type 0 where
@@ -290,11 +303,16 @@ stops p (k ∷ l ∷ more) v i e q = by (step p v k l) refl q (λ u z. stops p m
     by (refused r) s z go =
         let f : raised r i ≡ e = ap (fault-or e) z in
         let zero : i + 0 ≡ i = omega arith in
-        record { n = 0; at = sym (ap (λ x. x .«record») f) ∙ sym zero; some = omega arith;
-          same = ap (λ d. follow p v i d more .view) s; levels = ap (λ d. follow p v i d more .levels) s;
+        record {
+          n = 0;
+          at = sym (ap (λ x. x .«record») f) ∙ sym zero;
+          some = omega arith;
+          same = ap (λ d. follow p v i d more .view) s;
+          levels = ap (λ d. follow p v i d more .levels) s;
           before = ap Ok (sym zero);
           here = s ∙ ap refused (ap (λ x. x .refusal) f);
-          fault = sym f ∙ ap (λ x. raised (x .refusal) (x .«record»)) f }
+          fault = sym f ∙ ap (λ x. raised (x .refusal) (x .«record»)) f;
+        }
     by (taken u) s z go =
         let c = go u z in
         let two : 2 * (c .n + 1) ≡ suc (suc (2 * c .n)) = omega arith in
@@ -302,19 +320,23 @@ stops p (k ∷ l ∷ more) v i e q = by (step p v k l) refl q (λ u z. stops p m
         let sum : i + 1 + c .n ≡ i + (c .n + 1) = omega arith in
         let ys : List ℕ = take (2 * c .n) more in
         let cut : (F : List ℕ → Type 0) → F (k ∷ l ∷ ys) → F (take (2 * (c .n + 1)) (k ∷ l ∷ more)) = λ F x. subst (λ m. F (take m (k ∷ l ∷ more))) (sym two) x in
-        record { n = c .n + 1; at = c .at ∙ sum; some = longer (c .n) (length more) (c .some);
+        record {
+          n = c .n + 1;
+          at = c .at ∙ sum;
+          some = longer (c .n) (length more) (c .some);
           same = cut (λ zs. records p v i (k ∷ l ∷ more) .view ≡ records p v i zs .view)
-            (ap (λ d. follow p v i d more .view) s ∙ c .same ∙ sym (ap (λ d. follow p v i d ys .view) s));
+              (ap (λ d. follow p v i d more .view) s ∙ c .same ∙ sym (ap (λ d. follow p v i d ys .view) s));
           levels = cut (λ zs. records p v i (k ∷ l ∷ more) .levels ≡ records p v i zs .levels)
-            (ap (λ d. follow p v i d more .levels) s ∙ ap (λ qs. rule.seen (u .shift) ∷ qs) (c .levels) ∙ sym (ap (λ d. follow p v i d ys .levels) s));
+              (ap (λ d. follow p v i d more .levels) s ∙ ap (λ qs. rule.seen (u .shift) ∷ qs) (c .levels) ∙ sym (ap (λ d. follow p v i d ys .levels) s));
           before = cut (λ zs. records p v i zs .says ≡ Ok (i + (c .n + 1)))
-            (ap (λ d. follow p v i d ys .says) s ∙ c .before ∙ ap Ok sum);
+              (ap (λ d. follow p v i d ys .says) s ∙ c .before ∙ ap Ok sum);
           here = cut (λ zs. step p (records p v i zs .view) (getD (k ∷ l ∷ more) (2 * (c .n + 1)) 0) (getD (k ∷ l ∷ more) (2 * (c .n + 1) + 1) 0) ≡ refused (e .refusal))
-            (ap (λ w. step p w (getD (k ∷ l ∷ more) (2 * (c .n + 1)) 0) (getD (k ∷ l ∷ more) (2 * (c .n + 1) + 1) 0)) (ap (λ d. follow p v i d ys .view) s)
-            ∙ ap (λ m. step p (records p u (i + 1) ys .view) (getD (k ∷ l ∷ more) m 0) (getD (k ∷ l ∷ more) (2 * (c .n + 1) + 1) 0)) two
-            ∙ ap (λ m. step p (records p u (i + 1) ys .view) (getD more (2 * c .n) 0) (getD (k ∷ l ∷ more) m 0)) three
-            ∙ c .here);
-          fault = c .fault }
+              (ap (λ w. step p w (getD (k ∷ l ∷ more) (2 * (c .n + 1)) 0) (getD (k ∷ l ∷ more) (2 * (c .n + 1) + 1) 0)) (ap (λ d. follow p v i d ys .view) s)
+              ∙ ap (λ m. step p (records p u (i + 1) ys .view) (getD (k ∷ l ∷ more) m 0) (getD (k ∷ l ∷ more) (2 * (c .n + 1) + 1) 0)) two
+              ∙ ap (λ m. step p (records p u (i + 1) ys .view) (getD more (2 * c .n) 0) (getD (k ∷ l ∷ more) m 0)) three
+              ∙ c .here);
+          fault = c .fault;
+        }
       where
         longer : (n m : ℕ) → 2 * n ≤ m → 2 * (n + 1) ≤ suc (suc m)
         longer n m h = omega arith
@@ -323,11 +345,12 @@ ready : (bytes : List ℕ) (n : ℕ) → 2 * n ≤ length bytes → refused-capt
 ready bytes n h =
     let len : length (take (2 * n) bytes) ≡ 2 * n = length-take-le (2 * n) bytes h in
     ap (λ t. elim t as (λ _. Option Refusal) [ false ↦ Some OddLength | true ↦ elim (ltb n (length (take (2 * n) bytes) / 2)) as (λ _. Option Refusal) [ true ↦ Some ShortAnswers | false ↦ None ] ])
-      (eq-eqb (length (take (2 * n) bytes) % 2) 0 (even (length (take (2 * n) bytes)) n len))
+    (eq-eqb (length (take (2 * n) bytes) % 2) 0 (even (length (take (2 * n) bytes)) n len))
     ∙ ap (λ t. elim t as (λ _. Option Refusal) [ true ↦ Some ShortAnswers | false ↦ None ]) (le-ltb n (length (take (2 * n) bytes) / 2) (half (length (take (2 * n) bytes)) n len))
   where
     even : (m n : ℕ) → m ≡ 2 * n → m % 2 ≡ 0
     even m n e = omega arith
+
     half : (m n : ℕ) → m ≡ 2 * n → m / 2 ≤ n
     half m n e = omega arith
 
@@ -346,29 +369,37 @@ refused-capture-stands p v bytes room e says = by (unfit p (v .cells)) refl (ref
   where
     by : (o : Option Refusal) → unfit p (v .cells) ≡ o → (o′ : Option Refusal) → refused-capture bytes room ≡ o′ → call.unless o v (call.unless o′ v (records p v 0 bytes)) .says ≡ Err e → Refused-capture p v bytes room e
     by (Some r) f o′ g q =
-        record { view = ap (λ o. call.unless o v (call.unless (refused-capture bytes room) v (records p v 0 bytes)) .view) f ∙ sym (ap (λ o. cut-at p v bytes (e .«record») o .view) f);
+        record {
+          view = ap (λ o. call.unless o v (call.unless (refused-capture bytes room) v (records p v 0 bytes)) .view) f ∙ sym (ap (λ o. cut-at p v bytes (e .«record») o .view) f);
           levels = ap (λ o. call.unless o v (call.unless (refused-capture bytes room) v (records p v 0 bytes)) .levels) f ∙ sym (ap (λ o. cut-at p v bytes (e .«record») o .levels) f);
-          at = λ n _. absurd (subst is-none (sym n ∙ f) tt) }
+          at = λ n _. absurd (subst is-none (sym n ∙ f) tt);
+        }
     by None f (Some r) g q =
         let whole : outcome p v (capture bytes room) ≡ record { view = v; levels = []; says = Err (raised r 0) } =
-            ap (λ o. call.unless o v (call.unless (refused-capture bytes room) v (records p v 0 bytes))) f ∙ ap (λ o. call.unless o v (records p v 0 bytes)) g in
+        ap (λ o. call.unless o v (call.unless (refused-capture bytes room) v (records p v 0 bytes))) f ∙ ap (λ o. call.unless o v (records p v 0 bytes)) g in
         let part : ahead-of p v bytes e ≡ record { view = v; levels = []; says = Ok 0 } =
-            ap (λ o. cut-at p v bytes (e .«record») o) f ∙ ap (λ m. cut-at p v bytes m None) (sym (ap fault-record q)) in
-        record { view = ap (λ x. x .view) whole ∙ sym (ap (λ x. x .view) part); levels = ap (λ x. x .levels) whole ∙ sym (ap (λ x. x .levels) part);
-          at = λ _ n. absurd (subst is-none (sym n ∙ g) tt) }
+        ap (λ o. cut-at p v bytes (e .«record») o) f ∙ ap (λ m. cut-at p v bytes m None) (sym (ap fault-record q)) in
+        record {
+          view = ap (λ x. x .view) whole ∙ sym (ap (λ x. x .view) part);
+          levels = ap (λ x. x .levels) whole ∙ sym (ap (λ x. x .levels) part);
+          at = λ _ n. absurd (subst is-none (sym n ∙ g) tt);
+        }
     by None f None g q =
         let c = stops p bytes v 0 e q in
         let whole : outcome p v (capture bytes room) ≡ records p v 0 bytes =
-            ap (λ o. call.unless o v (call.unless (refused-capture bytes room) v (records p v 0 bytes))) f ∙ ap (λ o. call.unless o v (records p v 0 bytes)) g in
+        ap (λ o. call.unless o v (call.unless (refused-capture bytes room) v (records p v 0 bytes))) f ∙ ap (λ o. call.unless o v (records p v 0 bytes)) g in
         let part : ahead-of p v bytes e ≡ records p v 0 (take (2 * c .n) bytes) = ap (λ o. cut-at p v bytes (e .«record») o) f ∙ ahead-is p v bytes e c in
         let n : c .n ≡ e .«record» = sym (c .at ∙ omega arith) in
-        record { view = ap (λ x. x .view) whole ∙ c .same ∙ sym (ap (λ x. x .view) part);
+        record {
+          view = ap (λ x. x .view) whole ∙ c .same ∙ sym (ap (λ x. x .view) part);
           levels = ap (λ x. x .levels) whole ∙ c .levels ∙ sym (ap (λ x. x .levels) part);
           at = λ _ _. record {
             before = ap (λ x. x .says) part ∙ c .before ∙ ap Ok (sym (c .at));
             here = ap (λ x. step p (x .view) (getD bytes (2 * e .«record») 0) (getD bytes (2 * e .«record» + 1) 0)) part
-              ∙ sym (ap (λ m. step p (records p v 0 (take (2 * c .n) bytes) .view) (getD bytes (2 * m) 0) (getD bytes (2 * m + 1) 0)) n) ∙ c .here;
-            fault = c .fault } }
+                ∙ sym (ap (λ m. step p (records p v 0 (take (2 * c .n) bytes) .view) (getD bytes (2 * m) 0) (getD bytes (2 * m + 1) 0)) n) ∙ c .here;
+            fault = c .fault;
+          };
+        }
 
 -- ---- page copies
 
@@ -376,16 +407,19 @@ pub copies-stand : Copies-stand
 copies-stand p lw birth h page at room =
     let v = chip-after p birth h in
     let j = law.journal-after p birth h in
-    let same : unfit p (v .cells) ≡ unfit p (take (cell-count p) birth) = cells-stand p lw birth h .fitness in
-    ( ap (λ o. call.unless o v (call.unless (refused-copy p (rule.running (v .cycle)) page at room) v (record { view = v; levels = []; says = Ok 256 })) .says) same
-      ∙ by (unfit p (take (cell-count p) birth)) refl
-    , stays (unfit p (v .cells)) (refused-copy p (rule.running (v .cycle)) page at room) )
+    let same : unfit p (v .cells) ≡ unfit p (take (cell-count p) birth) = cells-stand p lw birth h .fitness in (
+      ap (λ o. call.unless o v (call.unless (refused-copy p (rule.running (v .cycle)) page at room) v (record { view = v; levels = []; says = Ok 256 })) .says) same
+          ∙ by (unfit p (take (cell-count p) birth)) refl,
+      stays (unfit p (v .cells)) (refused-copy p (rule.running (v .cycle)) page at room),
+    )
   where
     runs-same : {j : Journal} {v : View} → Tracks p birth j v → rule.running (v .cycle) ≡ note.cycle-runs (j .entries)
     runs-same (tracks ft m) = m .run-is
+
     fit-says-copy : (v : View) (o : Option Refusal) → call.unless o v (record { view = v; levels = []; says = Ok 256 }) .says ≡ first-of o (Ok 256)
     fit-says-copy v None = refl
     fit-says-copy v (Some r) = refl
+
     by : (o : Option Refusal) → unfit p (take (cell-count p) birth) ≡ o →
         call.unless o (chip-after p birth h) (call.unless (refused-copy p (rule.running (chip-after p birth h .cycle)) page at room) (chip-after p birth h) (record { view = chip-after p birth h; levels = []; says = Ok 256 })) .says
         ≡ first-of o (first-of (refused-copy p (note.cycle-runs (law.journal-after p birth h .entries)) page at room) (Ok 256))
@@ -393,6 +427,7 @@ copies-stand p lw birth h page at room =
     by None e =
         fit-says-copy (chip-after p birth h) (refused-copy p (rule.running (chip-after p birth h .cycle)) page at room)
         ∙ ap (λ r. first-of (refused-copy p r page at room) (Ok 256)) (runs-same (stands p lw birth e h .tie))
+
     stays : (o o′ : Option Refusal) → call.unless o (chip-after p birth h) (call.unless o′ (chip-after p birth h) (record { view = chip-after p birth h; levels = []; says = Ok 256 })) .view ≡ chip-after p birth h
     stays (Some r) o′ = refl
     stays None (Some r) = refl

@@ -130,22 +130,23 @@ module _ (p : Shape) (birth : List ℕ) (es : List Entry) (cy : Cycle) (cells : 
       let more : List Bool = bits ++ (d ∷ []) in
       let len : length more ≡ length bits + 1 = length-append bits (d ∷ []) in
       let num : pushed (number bits) d ≡ number more = pushed-number bits d lt in
-      elim (cases-lt (length bits) 7)
-      [ inl lt7 ↦
-          refit refl
-          (sym (ap (λ t. cond t (noted (accepted (cycle-runs es) (named (number more))) (enabled es)) unread) (ne-eqb (length more) 8 (omega arith))))
-          (ap (λ n. Instructing n (number more)) len ∙ ap (Instructing (length bits + 1)) (sym num)
-          ∙ sym (ap (λ t. elim t as (λ _. Phase) [ true ↦ Instructing (length bits + 1) (pushed (number bits) d) | false ↦ judged (accepted (running cy) (named (pushed (number bits) d))) (enabled es) (named (pushed (number bits) d)) ]) (lt-ltb (length bits) 7 lt7)))
-          (young (omega arith))
-      | inr ge7 ↦
-          let whole = eq-eqb (length more) 8 (omega arith) in
-          refit (append-nil more)
-          (sym (ap (λ t. cond t (noted (accepted (cycle-runs es) (named (number more))) (enabled es)) unread) whole))
-          (ap (λ r. judged (accepted r (named (number more))) (enabled es) (named (number more))) (sym (m .run-is))
-          ∙ ap (λ n. judged (accepted (running cy) (named n)) (enabled es) (named n)) (sym num)
-          ∙ sym (ap (λ t. elim t as (λ _. Phase) [ true ↦ Instructing (length bits + 1) (pushed (number bits) d) | false ↦ judged (accepted (running cy) (named (pushed (number bits) d))) (enabled es) (named (pushed (number bits) d)) ]) (le-ltb (length bits) 7 ge7)))
-          (old more [] (accepted (cycle-runs es) (named (number more))) (enabled es) sampled (omega arith) (λ e. e)
-            (judged-sample (accepted (cycle-runs es) (named (number more))) (named (number more)))) ]
+      elim (cases-lt (length bits) 7) [
+        | inl lt7 ↦
+            refit refl
+            (sym (ap (λ t. cond t (noted (accepted (cycle-runs es) (named (number more))) (enabled es)) unread) (ne-eqb (length more) 8 (omega arith))))
+            (ap (λ n. Instructing n (number more)) len ∙ ap (Instructing (length bits + 1)) (sym num)
+            ∙ sym (ap (λ t. elim t as (λ _. Phase) [ true ↦ Instructing (length bits + 1) (pushed (number bits) d) | false ↦ judged (accepted (running cy) (named (pushed (number bits) d))) (enabled es) (named (pushed (number bits) d)) ]) (lt-ltb (length bits) 7 lt7)))
+            (young (omega arith))
+        | inr ge7 ↦
+            let whole = eq-eqb (length more) 8 (omega arith) in
+            refit (append-nil more)
+            (sym (ap (λ t. cond t (noted (accepted (cycle-runs es) (named (number more))) (enabled es)) unread) whole))
+            (ap (λ r. judged (accepted r (named (number more))) (enabled es) (named (number more))) (sym (m .run-is))
+            ∙ ap (λ n. judged (accepted (running cy) (named n)) (enabled es) (named n)) (sym num)
+            ∙ sym (ap (λ t. elim t as (λ _. Phase) [ true ↦ Instructing (length bits + 1) (pushed (number bits) d) | false ↦ judged (accepted (running cy) (named (pushed (number bits) d))) (enabled es) (named (pushed (number bits) d)) ]) (le-ltb (length bits) 7 ge7)))
+            (old more [] (accepted (cycle-runs es) (named (number more))) (enabled es) sampled (omega arith) (λ e. e)
+            (judged-sample (accepted (cycle-runs es) (named (number more))) (named (number more))))
+      ]
     where
       judged-sample : (a : Bool) (i : Instruction) → Sample-ok p cells true (judged a (enabled es) i) sampled sampled
       judged-sample false i = tt
@@ -174,10 +175,10 @@ module _ (p : Shape) (birth : List ℕ) (es : List Entry) (cy : Cycle) (cells : 
       let lt = late-old (p .ident) a wel i rest in
       let push : goes-on (p .ident) (judged a wel i) (rest ++ (d ∷ [])) ≡ latched (p .ident) false false d (goes-on (p .ident) (judged a wel i) rest) = goes-on-push (p .ident) (judged a wel i) rest d in
       tracks (refit (sym (append-assoc eight rest (d ∷ [])))
-          (sym (ap (λ t. cond t (noted (accepted (cycle-runs es) (named (number all))) (enabled es)) (noted a wel)) (ne-eqb (length all) 8 (omega arith))))
-          (push ∙ sym (latched-late (p .ident) (running cy) (enabled es) d (goes-on (p .ident) (judged a wel i) rest) lt))
-          (old eight (rest ++ (d ∷ [])) a wel sample e8 ok
-            (subst (λ x. Sample-ok p cells true x sample sampled) (sym push) (sample-latched p cells (p .ident) d (goes-on (p .ident) (judged a wel i) rest) sample sampled lt so)))) m
+      (sym (ap (λ t. cond t (noted (accepted (cycle-runs es) (named (number all))) (enabled es)) (noted a wel)) (ne-eqb (length all) 8 (omega arith))))
+      (push ∙ sym (latched-late (p .ident) (running cy) (enabled es) d (goes-on (p .ident) (judged a wel i) rest) lt))
+      (old eight (rest ++ (d ∷ [])) a wel sample e8 ok
+      (subst (λ x. Sample-ok p cells true x sample sampled) (sym push) (sample-latched p cells (p .ident) d (goes-on (p .ident) (judged a wel i) rest) sample sampled lt so)))) m
 
   -- ---- a fall of C
 
@@ -215,7 +216,7 @@ module _ (p : Shape) (birth : List ℕ) (es : List Entry) (cy : Cycle) (cells : 
       let st : ℕ = status p law birth es cy cells m in
       let byte : ℕ → ℕ = λ n. byte-of birth n false es in
       subst (λ (e : List Bool). Tracks p birth (jr false false d w h (not h) bs (noted true wel) (puts-out p byte (samples st sampled (named (number e)) bs) (named (number e)) bs last) (samples st sampled (named (number e)) bs) es)
-          (vw false d w h (enabled es) cy x (shifted p (vw true d w h (enabled es) cy x (record { held = false; shown = last; sample = sample }) cells) (rule.held-now x h) x) cells))
+      (vw false d w h (enabled es) cy x (shifted p (vw true d w h (enabled es) cy x (record { held = false; shown = last; sample = sample }) cells) (rule.held-now x h) x) cells))
       (sym (take-at eight rest 8 e8))
       (fell d w h eight rest true wel _ _ sh (vw true d w h (enabled es) cy x (record { held = false; shown = last; sample = sample }) cells) e8 ok refl
       (outs p law birth es cy cells m d w h wel (rule.held-now x h) x last sample sampled eight rest e8 i so))
@@ -242,8 +243,12 @@ module _ (p : Shape) (birth : List ℕ) (es : List Entry) (cy : Cycle) (cells : 
   written g idle =
       let B : ℕ = base p (g .target) (g .start) in
       let L : List (Option ℕ) = take (reach p (g .target)) (rule.put-bytes (g .target) (g .bytes)) in
-      record { run-is = refl; len-is = m .len-is; now-is = m .now-is;
-        then-is = λ i h. laid-getD cells B L i (subst (λ n. i < n) (sym (m .len-is)) h) ∙ ap (or (put-at B L i)) (ap (λ x. getD (pend p x cells) i 0) (sym idle) ∙ m .then-is i h) }
+      record {
+        run-is = refl;
+        len-is = m .len-is;
+        now-is = m .now-is;
+        then-is = λ i h. laid-getD cells B L i (subst (λ n. i < n) (sym (m .len-is)) h) ∙ ap (or (put-at B L i)) (ap (λ x. getD (pend p x cells) i 0) (sym idle) ∙ m .then-is i h);
+      }
 
   shut-input : (c d w h : Bool) (g : Page) (sh : Shift) → cy ≡ Idle → (t : Bool) → counts p w st lk g ≡ t →
       Tracks p birth (at-end c d w h (if-so t (wrote (base p (g .target) (g .start)) (take (reach p (g .target)) (rule.put-bytes (g .target) (g .bytes))))))
@@ -273,9 +278,10 @@ module _ (p : Shape) (birth : List ℕ) (es : List Entry) (cy : Cycle) (cells : 
       Tracks p birth (at-end c d w h (entry p w st lk (goes-on (p .ident) (judged a wel i) rest))) (closed p (vw c d w h (enabled es) cy (goes-on (p .ident) (judged a wel i) rest) sh cells) (goes-on (p .ident) (judged a wel i) rest))
   shut-old c d w h sh a wel i rest ok false e = shut c d w h (goes-on (p .ident) (judged a wel i) rest) sh (idle-by cy (m .run-is ∙ e))
   shut-old c d w h sh a wel i rest ok true e =
-      elim (calm (p .ident) a wel i rest (λ z. subst (λ r. accepted r i ≡ true) e (ok z)))
-      [ inl q ↦ subst (λ x. Tracks p birth (at-end c d w h (entry p w st lk x)) (closed p (vw c d w h (enabled es) cy x sh cells) x)) (sym q) (tracks resting m)
-      | inr q ↦ subst (λ x. Tracks p birth (at-end c d w h (entry p w st lk x)) (closed p (vw c d w h (enabled es) cy x sh cells) x)) (sym q) (tracks resting m) ]
+      elim (calm (p .ident) a wel i rest (λ z. subst (λ r. accepted r i ≡ true) e (ok z))) [
+        | inl q ↦ subst (λ x. Tracks p birth (at-end c d w h (entry p w st lk x)) (closed p (vw c d w h (enabled es) cy x sh cells) x)) (sym q) (tracks resting m)
+        | inr q ↦ subst (λ x. Tracks p birth (at-end c d w h (entry p w st lk x)) (closed p (vw c d w h (enabled es) cy x sh cells) x)) (sym q) (tracks resting m)
+      ]
 
   -- the two lists are one
   lists-same : Lawful p → (w : Bool) (a wel : Bool) (eight rest : List Bool) → length eight ≡ 8 →
@@ -303,8 +309,12 @@ module _ (p : Shape) (birth : List ℕ) (es : List Entry) (cy : Cycle) (cells : 
 
   done : (w : _) → cy ≡ Busy w → Mem p birth (cycle-end ∷ es) Idle (pend p cy cells)
   done w e =
-      record { run-is = refl; len-is = (ap (λ x. length (pend p x cells)) e ∙ length-laid cells (base p (w .target) (w .start)) (take (reach p (w .target)) (w .bytes))) ∙ m .len-is;
-        now-is = m .then-is; then-is = m .then-is }
+      record {
+        run-is = refl;
+        len-is = (ap (λ x. length (pend p x cells)) e ∙ length-laid cells (base p (w .target) (w .start)) (take (reach p (w .target)) (w .bytes))) ∙ m .len-is;
+        now-is = m .then-is;
+        then-is = m .then-is;
+      }
 
   end-fits : (s c held : Bool) (bits : List Bool) (nt : Noted) (last : Level) (sampled : ℕ) (ph : Phase) (sh : Shift) (cells′ : List ℕ) → cycle-runs es ≡ true → Fits p cells es s c held bits nt last sampled ph sh → Fits p cells′ (cycle-end ∷ es) s c held bits nt last sampled ph sh
   end-fits s c held bits nt last sampled ph sh cells′ run resting = resting
@@ -314,9 +324,10 @@ module _ (p : Shape) (birth : List ℕ) (es : List Entry) (cy : Cycle) (cells : 
       let x : Phase = goes-on (p .ident) (judged a wel i) rest in
       let ok′ : a ≡ true → accepted true i ≡ true = λ z. subst (λ r. accepted r i ≡ true) run (ok z) in
       let so′ : Sample-ok p cells′ (c && not held) x sample sampled =
-          elim (calm (p .ident) a wel i rest ok′)
-          [ inl q ↦ subst (λ y. Sample-ok p cells′ (c && not held) y sample sampled) (sym q) tt
-          | inr q ↦ subst (λ y. Sample-ok p cells′ (c && not held) y sample sampled) (sym q) (subst (λ y. Sample-ok p cells (c && not held) y sample sampled) q so) ] in
+      elim (calm (p .ident) a wel i rest ok′) [
+        | inl q ↦ subst (λ y. Sample-ok p cells′ (c && not held) y sample sampled) (sym q) tt
+        | inr q ↦ subst (λ y. Sample-ok p cells′ (c && not held) y sample sampled) (sym q) (subst (λ y. Sample-ok p cells (c && not held) y sample sampled) q so)
+      ] in
       old {c = c} {held = held} eight rest a wel sample e8 (λ z. ap (accepted false) (only-rdsr i (ok′ z))) so′
 
   pub end-keeps : (s c d w h held : Bool) (bits : List Bool) (nt : Noted) (last : Level) (sampled : ℕ) (ph : Phase) (sh : Shift) → cycle-runs es ≡ true → Fits p cells es s c held bits nt last sampled ph sh → (x : Cycle) → cy ≡ x →

@@ -121,10 +121,12 @@ same-choice false a b x y e f = f
 status-out : (p : Shape) (v : View) (held : Bool) (k sampled status : ℕ) → v .shift .sample ≡ sampled → status-byte (getD (v .cells) (status-at p) 0) (v .wel) (running (v .cycle)) ≡ status →
     Shifts p v held (Status k) (level-of (bit-of (cond (eqb k 0) status sampled) k)) (cond (eqb k 0) status sampled)
 status-out p v held k sampled status e f =
-    record { sample = cond (eqb k 0) status sampled;
+    record {
+      sample = cond (eqb k 0) status sampled;
       shift-is = ap {B = Shift} (λ byte. record { held = held; shown = level-of (bit-of byte k); sample = byte })
-        (same-choice (eqb k 0) (status-byte (getD (v .cells) (status-at p) 0) (v .wel) (running (v .cycle))) (v .shift .sample) status sampled f e);
-      sample-is = refl }
+          (same-choice (eqb k 0) (status-byte (getD (v .cells) (status-at p) 0) (v .wel) (running (v .cycle))) (v .shift .sample) status sampled f e);
+      sample-is = refl;
+    }
 
 -- ---- a byte of a region
 
@@ -136,9 +138,11 @@ region-out : (p : Shape) (v : View) (held : Bool) (r : Region) (a k sampled : �
     Shifts p v held (Output r a k) (level-of (bit-of (getD (v .cells) (place p r a) 0) k)) sampled
 region-out p v held r a k sampled so =
     let e = first-choice (eqb k 0) (getD (v .cells) (place p r a) 0) (v .shift .sample) so in
-    record { sample = getD (v .cells) (place p r a) 0;
+    record {
+      sample = getD (v .cells) (place p r a) 0;
       shift-is = ap {B = Shift} (λ byte. record { held = held; shown = level-of (bit-of byte k); sample = byte }) e;
-      sample-is = λ _. refl }
+      sample-is = λ _. refl;
+    }
 
 -- the same at another term for the phase, or for what comes out
 at-phase : (p : Shape) (v : View) (held : Bool) (ph ph′ : Phase) (last last′ : Level) (sampled : ℕ) → ph ≡ ph′ → last ≡ last′ → Shifts p v held ph last sampled → Shifts p v held ph′ last′ sampled
@@ -190,9 +194,9 @@ module _ (p : Shape) (law : Lawful p) (birth : List ℕ) (es : List Entry) (cy :
         let l24 : length (take 24 rest) ≡ 24 = length-take-le 24 rest ge in
         let small : a < 4294967296 = under a (subst (λ n. a < 2 ^ n) l24 (number-lt (take 24 rest))) in
         let phase : goes-on (p .ident) (Address acc wel 0 0) rest ≡ Output r A (length ds % 8) =
-            address-full (p .ident) acc wel rest ge ∙ ap (λ x. goes-on (p .ident) x ds) aim ∙ output-phase (p .ident) r a ds small in
+        address-full (p .ident) acc wel rest ge ∙ ap (λ x. goes-on (p .ident) x ds) aim ∙ output-phase (p .ident) r a ds small in
         let cell : getD cells (place p r A) 0 ≡ byte (read-place p i (address bits) ((length bits - 32) / 8)) =
-            m .now-is (place p r A) (below A) ∙ ap byte (at (length ds / 8) ∙ ap (λ n. read-place p i a (n / 8)) dl ∙ ap (λ x. read-place p i x ((length bits - 32) / 8)) (sym address-is)) in
+        m .now-is (place p r A) (below A) ∙ ap byte (at (length ds / 8) ∙ ap (λ n. read-place p i a (n / 8)) dl ∙ ap (λ x. read-place p i x ((length bits - 32) / 8)) (sym address-is)) in
         at-phase p v held (Output r A (length ds % 8)) _ _ _ sampled (sym phase)
         (ap (λ x. level-of (bit-of x (length ds % 8))) cell
         ∙ ap (λ n. level-of (bit-of (byte (read-place p i (address bits) ((length bits - 32) / 8))) (n % 8))) dl

@@ -51,18 +51,19 @@ output-next ident r b a k ge =
 output-from : (ident : ℕ) (r : Region) (bs : List Bool) (a k : ℕ) → a < 4294967296 → k < 8 → goes-on ident (Output r a k) bs ≡ output-after r a (k + length bs)
 output-from ident r [] a k small lt = output-here r a k small lt
 output-from ident r (b ∷ bs) a k small lt =
-    elim (cases-lt k 7)
-        [ inl l ↦
-            let e : k + 1 + length bs ≡ k + suc (length bs) = omega arith in
-            ap (λ ph. goes-on ident ph bs) (output-more ident r b a k l) ∙ (output-from ident r bs a (k + 1) small (omega arith) ∙ ap (output-after r a) e)
-        | inr g ↦
-            let k7 : k ≡ 7 = omega arith in
-            let bit : (0 + length bs) % 8 ≡ (k + suc (length bs)) % 8 = omega arith in
-            let on : a + 1 + (0 + length bs) / 8 ≡ a + (k + suc (length bs)) / 8 = omega arith in
-            ap (λ ph. goes-on ident ph bs) (output-next ident r b a k g) ∙
-            (output-from ident r bs ((a + 1) % 4294967296) 0 (mod-below (a + 1) 4294967296 (omega arith)) (omega arith) ∙
-            (ap (λ x. Output r x ((0 + length bs) % 8)) (mod-add-mod (a + 1) 4294967296 ((0 + length bs) / 8)) ∙
-            (ap (λ x. Output r (x % 4294967296) ((0 + length bs) % 8)) on ∙ ap (Output r ((a + (k + suc (length bs)) / 8) % 4294967296)) bit))) ]
+    elim (cases-lt k 7) [
+      | inl l ↦
+          let e : k + 1 + length bs ≡ k + suc (length bs) = omega arith in
+          ap (λ ph. goes-on ident ph bs) (output-more ident r b a k l) ∙ (output-from ident r bs a (k + 1) small (omega arith) ∙ ap (output-after r a) e)
+      | inr g ↦
+          let k7 : k ≡ 7 = omega arith in
+          let bit : (0 + length bs) % 8 ≡ (k + suc (length bs)) % 8 = omega arith in
+          let on : a + 1 + (0 + length bs) / 8 ≡ a + (k + suc (length bs)) / 8 = omega arith in
+          ap (λ ph. goes-on ident ph bs) (output-next ident r b a k g) ∙
+          (output-from ident r bs ((a + 1) % 4294967296) 0 (mod-below (a + 1) 4294967296 (omega arith)) (omega arith) ∙
+          (ap (λ x. Output r x ((0 + length bs) % 8)) (mod-add-mod (a + 1) 4294967296 ((0 + length bs) / 8)) ∙
+          (ap (λ x. Output r (x % 4294967296) ((0 + length bs) % 8)) on ∙ ap (Output r ((a + (k + suc (length bs)) / 8) % 4294967296)) bit)))
+    ]
 
 pub output-phase : (ident : ℕ) (r : Region) (a : ℕ) (ds : List Bool) → a < 4294967296 →
     goes-on ident (Output r a 0) ds ≡ Output r ((a + length ds / 8) % 4294967296) (length ds % 8)
@@ -76,9 +77,10 @@ mod-within n k le =
 
 mod-ident : (p : Shape) → Lawful p → (n : ℕ) → n % 4294967296 % p .ident ≡ n % p .ident
 mod-ident p law n =
-    elim (law .page)
-        [ inl e ↦ ap (λ m. n % 4294967296 % m) e ∙ (mod-within n 7 (omega arith) ∙ sym (ap (λ m. n % m) e))
-        | inr e ↦ ap (λ m. n % 4294967296 % m) e ∙ (mod-within n 8 (omega arith) ∙ sym (ap (λ m. n % m) e)) ]
+    elim (law .page) [
+      | inl e ↦ ap (λ m. n % 4294967296 % m) e ∙ (mod-within n 7 (omega arith) ∙ sym (ap (λ m. n % m) e))
+      | inr e ↦ ap (λ m. n % 4294967296 % m) e ∙ (mod-within n 8 (omega arith) ∙ sym (ap (λ m. n % m) e))
+    ]
 
 -- the rules' cell of output byte j is the journal's
 pub read-place-is : (p : Shape) → Lawful p → (a j : ℕ) →

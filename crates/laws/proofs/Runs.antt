@@ -50,9 +50,10 @@ abbrev Lawful-cell : Shape → ℕ → ℕ → Type 0
 Lawful-cell p i x = (i ≡ status-at p → kept x ≡ x) × (i ≡ lock-at p → x ≤ 1)
 
 birth-lawful : (p : Shape) (birth : List ℕ) → unfit p (born-cells p birth) ≡ None → (i : ℕ) → Lawful-cell p i (getD birth i 0)
-birth-lawful p birth f i =
-    ( (λ e. subst (λ n. kept (getD birth n 0) ≡ getD birth n 0) (sym e) (subst (λ x. kept x ≡ x) (getD-take (cell-count p) birth (status-at p) 0 (omega arith)) (fit-status p (born-cells p birth) f)))
-    , (λ e. subst (λ n. getD birth n 0 ≤ 1) (sym e) (subst (λ x. x ≤ 1) (getD-take (cell-count p) birth (lock-at p) 0 (omega arith)) (fit-lock p (born-cells p birth) f))) )
+birth-lawful p birth f i = (
+  (λ e. subst (λ n. kept (getD birth n 0) ≡ getD birth n 0) (sym e) (subst (λ x. kept x ≡ x) (getD-take (cell-count p) birth (status-at p) 0 (omega arith)) (fit-status p (born-cells p birth) f))),
+  (λ e. subst (λ n. getD birth n 0 ≤ 1) (sym e) (subst (λ x. x ≤ 1) (getD-take (cell-count p) birth (lock-at p) 0 (omega arith)) (fit-lock p (born-cells p birth) f))),
+)
 
 pub stays-fit : (p : Shape) (birth : List ℕ) (j : Journal) (v : View) → unfit p (born-cells p birth) ≡ None → Stands p birth j v → unfit p (v .cells) ≡ None
 stays-fit p birth j v f s = by (s .tie) (s .sound)
@@ -60,7 +61,7 @@ stays-fit p birth j v f s = by (s .tie) (s .sound)
     by : {j : Journal} {v : View} → Tracks p birth j v → Sound-list p (j .entries) → unfit p (v .cells) ≡ None
     by (tracks {es = es} {cells = cells} ft m) sound =
         let lawful : (i : ℕ) → i < cell-count p → Lawful-cell p i (getD cells i 0) =
-            λ i h. subst (Lawful-cell p i) (sym (m .now-is i h)) (byte-by p (Lawful-cell p) (λ n x g. (g .status, g .lock)) birth (birth-lawful p birth f) es sound i false) in
+        λ i h. subst (Lawful-cell p i) (sym (m .now-is i h)) (byte-by p (Lawful-cell p) (λ n x g. (g .status, g .lock)) birth (birth-lawful p birth f) es sound i false) in
         made-fit p cells (subst (λ n. cell-count p ≤ n) (sym (m .len-is)) (omega arith)) (lawful (status-at p) (omega arith) .0 refl) (lawful (lock-at p) (omega arith) .1 refl)
 
 -- ---- birth
@@ -147,9 +148,10 @@ module _ (p : Shape) (law : Lawful p) (birth : List ℕ) where
 
 module _ (p : Shape) (r : Refusal) where
   pub unfit-call : (v : View) → unfit p (v .cells) ≡ Some r → (x : Call) → (called p v x ≡ v) × (outcome p v x .says ≡ Err (raised r 0))
-  unfit-call v e x =
-      ( ap (λ o. call.unless o v (call.fit-call p v x) .view) e
-      , ap (λ o. call.unless o v (call.fit-call p v x) .says) e )
+  unfit-call v e x = (
+    ap (λ o. call.unless o v (call.fit-call p v x) .view) e,
+    ap (λ o. call.unless o v (call.fit-call p v x) .says) e,
+  )
 
   pub unfit-history : (v : View) → unfit p (v .cells) ≡ Some r → (h : List Call) → after-calls p v h ≡ v
   unfit-history v e [] = refl

@@ -132,6 +132,7 @@ low-sound p place ps end s i y e =
   where
     away : (i place n st : ℕ) → i - place < n → place ≤ i → place + n ≤ st → i ≡ st → ⊥
     away i place n st a b c d = omega arith
+
     away-lock : (p : Shape) (i place n : ℕ) → i - place < n → place ≤ i → place + n ≤ status-at p → i ≡ lock-at p → ⊥
     away-lock p i place n a b c d = omega arith
 
@@ -173,9 +174,9 @@ module _ (p : Shape) (law : Lawful p) (w : Bool) (st lk : ℕ) where
   write-sound bs =
       let a : ℕ = address bs in
       if-sound p _ _ (λ _. low-sound p (page-of p a) (placed (replicate 256 None) (a % 256) (bytes-in (data-bits bs)))
-          (subst (λ n. page-of p a + n ≤ status-at p) (sym (length-placed (bytes-in (data-bits bs)) (replicate 256 None) (a % 256) ∙ length-replicate {A = Option ℕ} 256 None))
-            (reach (page-of p a) (page-end a (array-len p) (2 ^ (p .bits - 8)) (array-pages p (law .low)) (pow-pos (p .bits)))))
-          (placed-small (data-bits bs) (replicate 256 None) (a % 256) (empty-small 256)))
+      (subst (λ n. page-of p a + n ≤ status-at p) (sym (length-placed (bytes-in (data-bits bs)) (replicate 256 None) (a % 256) ∙ length-replicate {A = Option ℕ} 256 None))
+      (reach (page-of p a) (page-end a (array-len p) (2 ^ (p .bits - 8)) (array-pages p (law .low)) (pow-pos (p .bits)))))
+      (placed-small (data-bits bs) (replicate 256 None) (a % 256) (empty-small 256)))
     where
       reach : (x : ℕ) → x + 256 ≤ array-len p → x + 256 ≤ status-at p
       reach x h = omega arith
@@ -184,8 +185,8 @@ module _ (p : Shape) (law : Lawful p) (w : Bool) (st lk : ℕ) where
   wrid-sound bs =
       let a : ℕ = address bs in
       if-sound p _ _ (λ _. low-sound p (ident-at p) (placed (replicate (p .ident) None) (a % p .ident) (bytes-in (data-bits bs)))
-          (subst (λ n. ident-at p + n ≤ status-at p) (sym (length-placed (bytes-in (data-bits bs)) (replicate (p .ident) None) (a % p .ident) ∙ length-replicate {A = Option ℕ} (p .ident) None)) (omega arith))
-          (placed-small (data-bits bs) (replicate (p .ident) None) (a % p .ident) (empty-small (p .ident))))
+      (subst (λ n. ident-at p + n ≤ status-at p) (sym (length-placed (bytes-in (data-bits bs)) (replicate (p .ident) None) (a % p .ident) ∙ length-replicate {A = Option ℕ} (p .ident) None)) (omega arith))
+      (placed-small (data-bits bs) (replicate (p .ident) None) (a % p .ident) (empty-small (p .ident))))
 
   wrsr-sound : (bs : List Bool) → Sound-list p (wrsr w st p bs)
   wrsr-sound bs =

@@ -96,6 +96,7 @@ both p birth v u j i (Some r) (Some r′) e t k = (t, ap Err (inner r r′ e))
     out : Refusal → Option Refusal → Refusal
     out d None = d
     out d (Some x) = x
+
     inner : (r r′ : Refusal) → Some r ≡ Some r′ → r ≡ r′
     inner r r′ e = ap (out r) e
 

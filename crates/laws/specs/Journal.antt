@@ -226,17 +226,50 @@ notes es bs note = cond (eqb (length bs) 8) (noted (accepted (cycle-runs es) (na
 -- a rise of C: in a stretch, not held, the level of D is the next bit
 abbrev pub latches : Bool → Journal → Journal
 latches true j =
-    record { s = j .s; c = true; d = j .d; w = j .w; h = j .h; held = j .held; bits = j .bits ++ (j .d ∷ []);
-      note = notes (j .entries) (j .bits ++ (j .d ∷ [])) (j .note); last = j .last; sampled = j .sampled; entries = j .entries }
+    record {
+      s = j .s;
+      c = true;
+      d = j .d;
+      w = j .w;
+      h = j .h;
+      held = j .held;
+      bits = j .bits ++ (j .d ∷ []);
+      note = notes (j .entries) (j .bits ++ (j .d ∷ [])) (j .note);
+      last = j .last;
+      sampled = j .sampled;
+      entries = j .entries;
+    }
 latches false j =
-    record { s = j .s; c = true; d = j .d; w = j .w; h = j .h; held = j .held; bits = j .bits; note = j .note; last = j .last;
-      sampled = j .sampled; entries = j .entries }
+    record {
+      s = j .s;
+      c = true;
+      d = j .d;
+      w = j .w;
+      h = j .h;
+      held = j .held;
+      bits = j .bits;
+      note = j .note;
+      last = j .last;
+      sampled = j .sampled;
+      entries = j .entries;
+    }
 
 -- a fall of C: the last bit shifted and the status sampled
 abbrev pub falls : Journal → Level → ℕ → Journal
 falls j last sampled =
-    record { s = j .s; c = false; d = j .d; w = j .w; h = j .h; held = not (j .s) && not (j .h); bits = j .bits; note = j .note;
-      last = last; sampled = sampled; entries = j .entries }
+    record {
+      s = j .s;
+      c = false;
+      d = j .d;
+      w = j .w;
+      h = j .h;
+      held = not (j .s) && not (j .h);
+      bits = j .bits;
+      note = j .note;
+      last = last;
+      sampled = sampled;
+      entries = j .entries;
+    }
 
 -- a shifting one
 abbrev pub shifts : Shape → List ℕ → Journal → Noted → Journal
@@ -251,16 +284,38 @@ shifts p birth j (noted true wel) =
 -- the end of a stretch
 abbrev pub ends : Journal → List Entry → Journal
 ends j es =
-    record { s = true; c = j .c; d = j .d; w = j .w; h = j .h; held = false; bits = []; note = unread; last = Float; sampled = 0;
-      entries = es ++ j .entries }
+    record {
+      s = true;
+      c = j .c;
+      d = j .d;
+      w = j .w;
+      h = j .h;
+      held = false;
+      bits = [];
+      note = unread;
+      last = Float;
+      sampled = 0;
+      entries = es ++ j .entries;
+    }
 
 -- a taken event
 abbrev pub noting : Shape → List ℕ → Journal → Event → Journal
 noting p birth j (Select true) =
     ends j (cond (j .held) [] (closes p (j .w) (cell birth j (status-at p)) (cell birth j (lock-at p)) (j .note) (j .bits)))
 noting p birth j (Select false) =
-    record { s = false; c = j .c; d = j .d; w = j .w; h = j .h; held = not (j .c) && not (j .h); bits = []; note = unread;
-      last = Float; sampled = 0; entries = j .entries }
+    record {
+      s = false;
+      c = j .c;
+      d = j .d;
+      w = j .w;
+      h = j .h;
+      held = not (j .c) && not (j .h);
+      bits = [];
+      note = unread;
+      last = Float;
+      sampled = 0;
+      entries = j .entries;
+    }
 noting p birth j (Clock true) = latches (not (j .s) && not (j .held)) j
 noting p birth j (Clock false) = cond (j .s || j .held) (falls j (j .last) (j .sampled)) (shifts p birth j (j .note))
 noting p birth j (Data l) =

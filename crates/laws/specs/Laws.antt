@@ -76,9 +76,10 @@ abbrev pub journal-tells : Shape → List ℕ → Journal → ℕ → List ℕ �
 journal-tells p birth j i [] = record { levels = []; says = Ok i }
 journal-tells p birth j i (k ∷ []) = record { levels = []; says = Ok i }
 journal-tells p birth j i (k ∷ l ∷ more) =
-    elim (journal-step p birth j k l) as (λ _. Telling)
-    [ took x ↦ tells-more (q-of x) (journal-tells p birth x (i + 1) more)
-    | turned r ↦ record { levels = []; says = Err (raised r i) } ]
+    elim (journal-step p birth j k l) as (λ _. Telling) [
+      | took x ↦ tells-more (q-of x) (journal-tells p birth x (i + 1) more)
+      | turned r ↦ record { levels = []; says = Err (raised r i) }
+    ]
 
 -- a capture that is refused ahead of its records tells nothing
 abbrev pub told-first : Option Refusal → Telling → Telling
@@ -145,7 +146,7 @@ ahead-of p v bytes e = outcome p v (capture (take (2 * e .«record») bytes) (e 
 pub record Refused-at (p : Shape) (v : View) (bytes : List ℕ) (e : Fault) : Type 0 where
   pub before : ahead-of p v bytes e .says ≡ Ok (e .«record»)
   pub here :
-    step p (ahead-of p v bytes e .view) (getD bytes (2 * e .«record») 0) (getD bytes (2 * e .«record» + 1) 0) ≡ refused (e .refusal)
+      step p (ahead-of p v bytes e .view) (getD bytes (2 * e .«record») 0) (getD bytes (2 * e .«record» + 1) 0) ≡ refused (e .refusal)
   pub fault : e ≡ raised (e .refusal) (e .«record»)
 
 pub record Refused-capture (p : Shape) (v : View) (bytes : List ℕ) (room : ℕ) (e : Fault) : Type 0 where

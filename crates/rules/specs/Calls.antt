@@ -36,9 +36,10 @@ abbrev pub records : Shape → View → ℕ → List ℕ → Outcome
 records p v i [] = record { view = v; levels = []; says = Ok i }
 records p v i (k ∷ []) = record { view = v; levels = []; says = Ok i }
 records p v i (k ∷ l ∷ more) =
-    elim (step p v k l) as (λ _. Outcome)
-    [ taken u ↦ with-level (seen (u .shift)) (records p u (i + 1) more)
-    | refused r ↦ record { view = v; levels = []; says = Err (raised r i) } ]
+    elim (step p v k l) as (λ _. Outcome) [
+      | taken u ↦ with-level (seen (u .shift)) (records p u (i + 1) more)
+      | refused r ↦ record { view = v; levels = []; says = Err (raised r i) }
+    ]
 
 abbrev pub one-event : View → Done → Outcome
 one-event v (taken u) = record { view = u; levels = seen (u .shift) ∷ []; says = Ok (level-number (seen (u .shift))) }

@@ -111,9 +111,10 @@ one-more More = More
 -- a data bit; the eighth puts the byte into the page
 abbrev pub filled : Page → Bool → Page
 filled g d =
-    elim (ltb (g .bit) 7)
-    [ true ↦ record { target = g .target; wel = g .wel; start = g .start; at = g .at; last = g .last; bit = g .bit + 1; value = pushed (g .value) d; got = g .got; bytes = g .bytes }
-    | false ↦ record { target = g .target; wel = g .wel; start = g .start; at = rolled (g .at) (g .last); last = g .last; bit = 0; value = 0; got = one-more (g .got); bytes = set (g .bytes) (g .at) (Some (pushed (g .value) d)) } ]
+    elim (ltb (g .bit) 7) [
+      | true ↦ record { target = g .target; wel = g .wel; start = g .start; at = g .at; last = g .last; bit = g .bit + 1; value = pushed (g .value) d; got = g .got; bytes = g .bytes }
+      | false ↦ record { target = g .target; wel = g .wel; start = g .start; at = rolled (g .at) (g .last); last = g .last; bit = 0; value = 0; got = one-more (g .got); bytes = set (g .bytes) (g .at) (Some (pushed (g .value) d)) }
+    ]
 
 -- a rise of C latches the level of D; runs and wel are those of this moment
 abbrev pub latched : ℕ → (runs wel d : Bool) → Phase → Phase
@@ -249,8 +250,14 @@ with-hold x l = record { clock = x .clock; input = x .input; protect = x .protec
 -- S moves
 abbrev pub selects : View → View
 selects v =
-    record { pins = v .pins; wel = v .wel; cycle = v .cycle; stretch = Instructing 0 0;
-      shift = record { held = not (v .pins .clock) && not (v .pins .hold); shown = Float; sample = 0 }; cells = v .cells }
+    record {
+      pins = v .pins;
+      wel = v .wel;
+      cycle = v .cycle;
+      stretch = Instructing 0 0;
+      shift = record { held = not (v .pins .clock) && not (v .pins .hold); shown = Float; sample = 0 };
+      cells = v .cells;
+    }
 
 abbrev pub rises-S : Shape → View → Bool → View
 rises-S p v true = deselected v (v .wel) (v .cycle)
@@ -280,8 +287,14 @@ with-pins v x = record { pins = x; wel = v .wel; cycle = v .cycle; stretch = v .
 abbrev pub holds : View → Bool → Bool → View
 holds v h true = with-pins v (with-hold (v .pins) h)
 holds v h false =
-    record { pins = with-hold (v .pins) h; wel = v .wel; cycle = v .cycle; stretch = v .stretch;
-      shift = same-shown (v .shift) (held-now (v .stretch) h); cells = v .cells }
+    record {
+      pins = with-hold (v .pins) h;
+      wel = v .wel;
+      cycle = v .cycle;
+      stretch = v .stretch;
+      shift = same-shown (v .shift) (held-now (v .stretch) h);
+      cells = v .cells;
+    }
 
 -- bytes over a row from its front on
 abbrev pub over : List ℕ → List (Option ℕ) → List ℕ
@@ -299,8 +312,14 @@ laid (x ∷ xs) (suc n) bytes = x ∷ laid xs n bytes
 abbrev pub ended : Shape → View → Cycle → View
 ended p v Idle = v
 ended p v (Busy w) =
-    record { pins = v .pins; wel = false; cycle = Idle; stretch = v .stretch; shift = v .shift;
-      cells = laid (v .cells) (base p (w .target) (w .start)) (take (reach p (w .target)) (w .bytes)) }
+    record {
+      pins = v .pins;
+      wel = false;
+      cycle = Idle;
+      stretch = v .stretch;
+      shift = v .shift;
+      cells = laid (v .cells) (base p (w .target) (w .start)) (take (reach p (w .target)) (w .bytes));
+    }
 
 abbrev pub powered : View → View
 powered v = record { pins = v .pins; wel = false; cycle = v .cycle; stretch = v .stretch; shift = v .shift; cells = v .cells }
@@ -353,5 +372,11 @@ answer (refused r) = Err r
 -- a chip at its birth, over a row
 abbrev pub born : Shape → List ℕ → View
 born p row =
-    record { pins = record { clock = false; input = false; protect = true; hold = true }; wel = false; cycle = Idle;
-      stretch = Deselected; shift = at-rest; cells = take (cell-count p) row }
+    record {
+      pins = record { clock = false; input = false; protect = true; hold = true };
+      wel = false;
+      cycle = Idle;
+      stretch = Deselected;
+      shift = at-rest;
+      cells = take (cell-count p) row;
+    }

@@ -39,13 +39,31 @@ bare-event e l = elim (eqb l 0) [ true ↦ Ok e | false ↦ Err BadLevel ]
 -- a kind and a level as an event
 abbrev pub decoded : ℕ → ℕ → Result Event Refusal
 decoded k l =
-    elim (eqb k 0) [ true ↦ pin-event Select l | false ↦
-    elim (eqb k 1) [ true ↦ pin-event Clock l | false ↦
-    elim (eqb k 2) [ true ↦ pin-event Data l | false ↦
-    elim (eqb k 3) [ true ↦ pin-event Protect l | false ↦
-    elim (eqb k 4) [ true ↦ pin-event Hold l | false ↦
-    elim (eqb k 5) [ true ↦ bare-event CycleEnd l | false ↦
-    elim (eqb k 6) [ true ↦ bare-event Power l | false ↦ Err UnknownKind ] ] ] ] ] ] ]
+    elim (eqb k 0) [
+      | true ↦ pin-event Select l
+      | false ↦
+          elim (eqb k 1) [
+            | true ↦ pin-event Clock l
+            | false ↦
+                elim (eqb k 2) [
+                  | true ↦ pin-event Data l
+                  | false ↦
+                      elim (eqb k 3) [
+                        | true ↦ pin-event Protect l
+                        | false ↦
+                            elim (eqb k 4) [
+                              | true ↦ pin-event Hold l
+                              | false ↦
+                                  elim (eqb k 5) [
+                                    | true ↦ bare-event CycleEnd l
+                                    | false ↦
+                                        elim (eqb k 6) [ true ↦ bare-event Power l | false ↦ Err UnknownKind ]
+                                  ]
+                            ]
+                      ]
+                ]
+          ]
+    ]
 
 -- a pin that is to go where it is
 abbrev pub there : Bool → Bool → Option Refusal
@@ -69,35 +87,74 @@ kept b = b / 128 * 128 + b / 4 % 4 * 4
 -- why a chip with these cells is not fit
 abbrev pub unfit : Shape → List ℕ → Option Refusal
 unfit p cells =
-    elim (ltb (length cells) (cell-count p)) [ true ↦ Some ShortBacking | false ↦
-    elim (eqb (kept (getD cells (status-at p) 0)) (getD cells (status-at p) 0)) [ false ↦ Some StatusBits | true ↦
-    elim (ltb 1 (getD cells (lock-at p) 0)) [ true ↦ Some LockValue | false ↦ None ] ] ]
+    elim (ltb (length cells) (cell-count p)) [
+      | true ↦ Some ShortBacking
+      | false ↦
+          elim (eqb (kept (getD cells (status-at p) 0)) (getD cells (status-at p) 0)) [
+            | false ↦ Some StatusBits
+            | true ↦
+                elim (ltb 1 (getD cells (lock-at p) 0)) [ true ↦ Some LockValue | false ↦ None ]
+          ]
+    ]
 
 -- a capture that is refused ahead of its records
 abbrev pub refused-capture : List ℕ → ℕ → Option Refusal
 refused-capture bytes room =
-    elim (eqb (length bytes % 2) 0) [ false ↦ Some OddLength | true ↦
-    elim (ltb room (length bytes / 2)) [ true ↦ Some ShortAnswers | false ↦ None ] ]
+    elim (eqb (length bytes % 2) 0) [
+      | false ↦ Some OddLength
+      | true ↦
+          elim (ltb room (length bytes / 2)) [ true ↦ Some ShortAnswers | false ↦ None ]
+    ]
 
 -- a page copy that is refused
 abbrev pub refused-copy : Shape → Bool → (page at room : ℕ) → Option Refusal
 refused-copy p running page at room =
-    elim (ltb page (array-len p / 256)) [ false ↦ Some NoSuchPage | true ↦
-    elim (ltb room (at + 256)) [ true ↦ Some ShortBuffer | false ↦
-    elim running [ true ↦ Some CycleRunning | false ↦ None ] ] ]
+    elim (ltb page (array-len p / 256)) [
+      | false ↦ Some NoSuchPage
+      | true ↦
+          elim (ltb room (at + 256)) [
+            | true ↦ Some ShortBuffer
+            | false ↦
+                elim running [ true ↦ Some CycleRunning | false ↦ None ]
+          ]
+    ]
 
 -- the instructions by their bytes
 abbrev pub named : ℕ → Instruction
 named b =
-    elim (eqb b 6) [ true ↦ Wren | false ↦
-    elim (eqb b 4) [ true ↦ Wrdi | false ↦
-    elim (eqb b 5) [ true ↦ Rdsr | false ↦
-    elim (eqb b 1) [ true ↦ Wrsr | false ↦
-    elim (eqb b 3) [ true ↦ Read | false ↦
-    elim (eqb b 2) [ true ↦ Write | false ↦
-    elim (eqb b 131) [ true ↦ RdidRdls | false ↦
-    elim (eqb b 130) [ true ↦ WridLid | false ↦
-    elim (eqb b 129) [ true ↦ Rduid | false ↦ Unknown ] ] ] ] ] ] ] ] ]
+    elim (eqb b 6) [
+      | true ↦ Wren
+      | false ↦
+          elim (eqb b 4) [
+            | true ↦ Wrdi
+            | false ↦
+                elim (eqb b 5) [
+                  | true ↦ Rdsr
+                  | false ↦
+                      elim (eqb b 1) [
+                        | true ↦ Wrsr
+                        | false ↦
+                            elim (eqb b 3) [
+                              | true ↦ Read
+                              | false ↦
+                                  elim (eqb b 2) [
+                                    | true ↦ Write
+                                    | false ↦
+                                        elim (eqb b 131) [
+                                          | true ↦ RdidRdls
+                                          | false ↦
+                                              elim (eqb b 130) [
+                                                | true ↦ WridLid
+                                                | false ↦
+                                                    elim (eqb b 129) [ true ↦ Rduid | false ↦ Unknown ]
+                                              ]
+                                        ]
+                                  ]
+                            ]
+                      ]
+                ]
+          ]
+    ]
 
 -- while a cycle runs only RDSR is accepted
 abbrev pub accepted : Bool → Instruction → Bool
@@ -122,9 +179,15 @@ bp st = st / 4 % 4
 
 abbrev pub fence : Shape → ℕ → ℕ
 fence p st =
-    elim (eqb (bp st) 0) [ true ↦ array-len p | false ↦
-    elim (eqb (bp st) 1) [ true ↦ array-len p - array-len p / 4 | false ↦
-    elim (eqb (bp st) 2) [ true ↦ array-len p / 2 | false ↦ 0 ] ] ]
+    elim (eqb (bp st) 0) [
+      | true ↦ array-len p
+      | false ↦
+          elim (eqb (bp st) 1) [
+            | true ↦ array-len p - array-len p / 4
+            | false ↦
+                elim (eqb (bp st) 2) [ true ↦ array-len p / 2 | false ↦ 0 ]
+          ]
+    ]
 
 -- what each write asks besides its bits: the page, the level of W, the status and the lock cell, the data byte
 abbrev pub page-open : Shape → ℕ → ℕ → Bool

@@ -22,15 +22,18 @@ loop-i-again g c =
     let page = c .args .bytes .now in
     let i = c .loop-i .i in
     let at = c .args .base in
-    elim (c .match-bytes-i .came)
-    [ in-Some·in-Continue-put w ↦
-        (ap (g .B·Backing .row) (w .backing-is)
-        ∙ w .in-Continue-put .ensures tt .row .1
-        ∙ ap (λ xs. set xs (at + i) (w .in-Some .b)) (c .loop-i .inv .0)
-        ∙ sym (laid-some row at page i (w .in-Some .b) (omega arith) (w .in-Some .is)),
+    elim (c .match-bytes-i .came) [
+      | in-Some·in-Continue-put w ↦ (
+        ap (g .B·Backing .row) (w .backing-is)
+            ∙ w .in-Continue-put .ensures tt .row .1
+            ∙ ap (λ xs. set xs (at + i) (w .in-Some .b)) (c .loop-i .inv .0)
+            ∙ sym (laid-some row at page i (w .in-Some .b) (omega arith) (w .in-Some .is)),
         ap (g .B·Backing .held) (w .backing-is) ∙ w .in-Continue-put .ensures tt .held ∙ c .loop-i .inv .1,
-        ap (g .B·Backing .past) (w .backing-is) ∙ w .in-Continue-put .ensures tt .past ∙ c .loop-i .inv .2)
-    | in-rest w ↦
-        (ap (g .B·Backing .row) (w .backing-is) ∙ c .loop-i .inv .0 ∙ sym (laid-none row at page i (w .in-rest .is)),
+        ap (g .B·Backing .past) (w .backing-is) ∙ w .in-Continue-put .ensures tt .past ∙ c .loop-i .inv .2,
+      )
+      | in-rest w ↦ (
+        ap (g .B·Backing .row) (w .backing-is) ∙ c .loop-i .inv .0 ∙ sym (laid-none row at page i (w .in-rest .is)),
         ap (g .B·Backing .held) (w .backing-is) ∙ c .loop-i .inv .1,
-        ap (g .B·Backing .past) (w .backing-is) ∙ c .loop-i .inv .2) ]
+        ap (g .B·Backing .past) (w .backing-is) ∙ c .loop-i .inv .2,
+      )
+    ]

@@ -15,7 +15,8 @@ pub returns-then-len-unique-start : need.returns-then-len-unique-start
 returns-then-len-unique-start g c =
     record {
       value = ap Err (c .of .ensures) ∙ sym (short-row (g .P·Part .shape) (g .B·Backing .row (c .args .backing .now)) (c .len .result) (c .len .ensures) (omega arith));
-      long = λ e. absurd (false≢true e) }
+      long = λ e. absurd (false≢true e);
+    }
 
 pub returns-in-Some : need.returns-in-Some
 returns-in-Some g c =

@@ -17,6 +17,7 @@ returns-in-Array g c =
     let k = page-within x (p .bits) (w .low) lt in
     let r : reach p (c .args .target) ≡ 256 = ap (reach p) m in
     let hi = pow-high (p .bits) (w .high) in
-    record
-        { value = ap (λ n. c .args .start % n / 256 * 256) e ∙ ap (λ t. base p t (c .args .start)) (sym m)
-        ; within = (omega (arith, r, k), omega (arith, k, hi)) }
+    record {
+      value = ap (λ n. c .args .start % n / 256 * 256) e ∙ ap (λ t. base p t (c .args .start)) (sym m);
+      within = (omega (arith, r, k), omega (arith, k, hi));
+    }

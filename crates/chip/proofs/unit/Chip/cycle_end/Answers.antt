@@ -14,8 +14,9 @@ returns-in-Continue-lay g c =
     let at = c .base-of-base .result in
     let len = c .reach-of .result in
     let e = c .in-Continue-lay .ensures tt in
-    record
-        { made = refl
-        ; view = ended-view p (view-of p row (c .args .self .now)) w (row x) (row y) at len refl (c .in-Busy .is) (c .base-of-base .ensures .value) (c .reach-of .ensures .0) (e .row)
-        ; lent = refl
-        ; kept = laid-kept p row (g .B·Backing .past) (g .B·Backing .held) x y at len (w .bytes) (omega (arith, c .base-of-base .ensures .within .0, c .reach-of .ensures .0)) (e .row) (e .held) (e .past) }
+    record {
+      made = refl;
+      view = ended-view p (view-of p row (c .args .self .now)) w (row x) (row y) at len refl (c .in-Busy .is) (c .base-of-base .ensures .value) (c .reach-of .ensures .0) (e .row);
+      lent = refl;
+      kept = laid-kept p row (g .B·Backing .past) (g .B·Backing .held) x y at len (w .bytes) (omega (arith, c .base-of-base .ensures .within .0, c .reach-of .ensures .0)) (e .row) (e .held) (e .past);
+    }

@@ -8,8 +8,9 @@ returns g c =
     let v = view-of p (g .B·Backing .row) (c .args .self .now) in
     let w = view-of p (g .B·Backing .row) (c .step .last .self) in
     let fit = c .in-Continue-making .ensures tt .value in
-    record
-        { says = outcome-says p v (c .args .kind) (c .args .level) (c .step .result) fit (c .step .ensures .answer)
-        ; view = outcome-view p v w (c .args .kind) (c .args .level) fit (c .step .ensures .view)
-        ; lent = c .step .ensures .lent
-        ; kept = c .step .ensures .kept }
+    record {
+      says = outcome-says p v (c .args .kind) (c .args .level) (c .step .result) fit (c .step .ensures .answer);
+      view = outcome-view p v w (c .args .kind) (c .args .level) fit (c .step .ensures .view);
+      lent = c .step .ensures .lent;
+      kept = c .step .ensures .kept;
+    }
