@@ -19,21 +19,21 @@ use rules::page::keep;
 use rules::state::Page;
 
 // The byte of a cell.
-pub fn cell<P: Part, B: Backing>(backing: &B, place: usize) -> Result<u8, Fault>
+pub(crate) fn cell<P: Part, B: Backing>(backing: &B, place: usize) -> Result<u8, Fault>
     requires { ⌜ (place < cell-count (P·Part .shape)) × (cell-count (P·Part .shape) ≤ length (B·Backing .row (now backing))) ⌝ }
     ensures { λ r. ⌜ r ≡ Ok (getD (cells-of (P·Part .shape) (B·Backing .row (now (backing .entry)))) place 0) ⌝ }
 {
     backing.get(place)
 }
 
-pub fn status<P: Part, B: Backing>(backing: &B) -> Result<u8, Fault>
+pub(crate) fn status<P: Part, B: Backing>(backing: &B) -> Result<u8, Fault>
     requires { ⌜ cell-count (P·Part .shape) ≤ length (B·Backing .row (now backing)) ⌝ }
     ensures { λ r. ⌜ r ≡ Ok (getD (cells-of (P·Part .shape) (B·Backing .row (now (backing .entry)))) (status-at (P·Part .shape)) 0) ⌝ }
 {
     cell::<P, B>(backing, places::unique_start::<P>() + 16)
 }
 
-pub fn lock<P: Part, B: Backing>(backing: &B) -> Result<u8, Fault>
+pub(crate) fn lock<P: Part, B: Backing>(backing: &B) -> Result<u8, Fault>
     requires { ⌜ cell-count (P·Part .shape) ≤ length (B·Backing .row (now backing)) ⌝ }
     ensures { λ r. ⌜ r ≡ Ok (getD (cells-of (P·Part .shape) (B·Backing .row (now (backing .entry)))) (lock-at (P·Part .shape)) 0) ⌝ }
 {
@@ -54,7 +54,7 @@ fn judge_cells(status: u8, lock: u8) -> Option<Refusal>
 }
 
 // Making's refusals: whether the row can be the part's cells.
-pub fn making<P: Part, B: Backing>(backing: &B) -> Result<(), Fault>
+pub(crate) fn making<P: Part, B: Backing>(backing: &B) -> Result<(), Fault>
     ensures value { λ r. ⌜ r ≡ checked (unfit (P·Part .shape) (cells-of (P·Part .shape) (B·Backing .row (now (backing .entry))))) ⌝ }
     ensures long { λ r. ⌜ (isOk r ≡ true → cell-count (P·Part .shape) ≤ length (B·Backing .row (now (backing .entry)))) ⌝ }
 {
@@ -70,7 +70,7 @@ pub fn making<P: Part, B: Backing>(backing: &B) -> Result<(), Fault>
 }
 
 // Whether a write counts, with W at this level.
-pub fn takes<P: Part, B: Backing>(backing: &B, protect: bool, page: &Page) -> Result<bool, Fault>
+pub(crate) fn takes<P: Part, B: Backing>(backing: &B, protect: bool, page: &Page) -> Result<bool, Fault>
     requires { ⌜ cell-count (P·Part .shape) ≤ length (B·Backing .row (now backing)) ⌝ }
     ensures { λ r. ⌜ r ≡ Ok (counts (P·Part .shape) protect (getD (cells-of (P·Part .shape) (B·Backing .row (now (backing .entry)))) (status-at (P·Part .shape)) 0) (getD (cells-of (P·Part .shape) (B·Backing .row (now (backing .entry)))) (lock-at (P·Part .shape)) 0) (now (page .entry))) ⌝ }
 {
@@ -85,7 +85,7 @@ pub fn takes<P: Part, B: Backing>(backing: &B, protect: bool, page: &Page) -> Re
 }
 
 // Puts the bytes of a write into the row, from `base` on.
-pub fn lay<B: Backing>(
+pub(crate) fn lay<B: Backing>(
     backing: &mut B,
     base: usize,
     len: usize,

@@ -9,20 +9,20 @@ use rules::close::protected_from;
 use rules::state::Region;
 use rules::state::Target;
 
-pub fn array_len<P: Part>() -> usize
+pub(crate) fn array_len<P: Part>() -> usize
     ensures value { λ r. ⌜ r ≡ array-len (P·Part .shape) ⌝ }
     ensures bounds { λ r. ⌜ (4096 ≤ r) × (r ≤ 262144) ⌝ }
 {
     1usize << P::width()
 }
 
-pub fn unique_start<P: Part>() -> usize
+pub(crate) fn unique_start<P: Part>() -> usize
     ensures { λ r. ⌜ (r ≡ unique-at (P·Part .shape)) × (r ≤ 262400) ⌝ }
 {
     array_len::<P>() + P::page().length() as usize
 }
 
-pub fn cell_of<P: Part>(region: Region, address: u32) -> usize
+pub(crate) fn cell_of<P: Part>(region: Region, address: u32) -> usize
     ensures value { λ r. ⌜ r ≡ place (P·Part .shape) region address ⌝ }
     ensures within { λ r. ⌜ r < cell-count (P·Part .shape) ⌝ }
 {
@@ -34,7 +34,7 @@ pub fn cell_of<P: Part>(region: Region, address: u32) -> usize
     }
 }
 
-pub fn base_of<P: Part>(target: Target, start: u32) -> usize
+pub(crate) fn base_of<P: Part>(target: Target, start: u32) -> usize
     ensures value { λ r. ⌜ r ≡ base (P·Part .shape) target start ⌝ }
     ensures within { λ r. ⌜ (r + reach (P·Part .shape) target ≤ cell-count (P·Part .shape)) × (r < 1000000) ⌝ }
 {
@@ -46,7 +46,7 @@ pub fn base_of<P: Part>(target: Target, start: u32) -> usize
     }
 }
 
-pub fn reach_of<P: Part>(target: Target) -> usize
+pub(crate) fn reach_of<P: Part>(target: Target) -> usize
     ensures { λ r. ⌜ (r ≡ reach (P·Part .shape) target) × (r ≤ 256) ⌝ }
 {
     match target {
@@ -58,7 +58,7 @@ pub fn reach_of<P: Part>(target: Target) -> usize
 }
 
 // Whether the array page of an address is open to writes, under this status cell.
-pub fn is_open<P: Part>(status: u8, address: u32) -> bool
+pub(crate) fn is_open<P: Part>(status: u8, address: u32) -> bool
     ensures { λ r. ⌜ r ≡ page-open (P·Part .shape) status (page-of (P·Part .shape) address) ⌝ }
 {
     base_of::<P>(Target::Array, address) < protected_from(array_len::<P>(), status)

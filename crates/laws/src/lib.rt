@@ -1,10 +1,18 @@
 // The laws over whole runs, each as a contract.
 ghost use Rattle.laws.specs.Bench.{Bench-cases, Rests};
+ghost use Rattle.laws.specs.Entries.{Table-entries};
 ghost use Rattle.laws.specs.Laws.{Answers-stand, Captures-stand, Copies-stand, Cells-stand, Unfit-stand, Refused-event-stands, Refused-capture-stands, Sameness-stands};
 
 // The twelve bench cases come out as the rules say.
 pub fn bench_cases() -> u8
     ensures { λ _. ⌜ Bench-cases ⌝ }
+{
+    0
+}
+
+// Short runs that show each entry of the shared tables come out as the rules say.
+pub fn table_entries() -> u8
+    ensures { λ _. ⌜ Table-entries ⌝ }
 {
     0
 }

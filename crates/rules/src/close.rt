@@ -8,7 +8,7 @@ use super::state::Page;
 use super::state::Target;
 
 // BP1 BP0 of the status cell.
-pub fn protection(status: u8) -> u8
+pub(crate) fn protection(status: u8) -> u8
     ensures { λ r. ⌜ r ≡ bp status ⌝ }
 {
     status / 4 % 4
@@ -27,21 +27,21 @@ pub fn protected_from(array: usize, status: u8) -> usize
 }
 
 // WRSR, with W at this level.
-pub fn opens_status(status: u8, protect: bool) -> bool
+pub(crate) fn opens_status(status: u8, protect: bool) -> bool
     ensures { λ r. ⌜ r ≡ status-open status protect ⌝ }
 {
     status < 128 || protect
 }
 
 // WRID.
-pub fn opens_ident(status: u8, lock: u8) -> bool
+pub(crate) fn opens_ident(status: u8, lock: u8) -> bool
     ensures { λ r. ⌜ r ≡ ident-open status lock ⌝ }
 {
     lock == 0 && protection(status) != 3
 }
 
 // LID with this data byte.
-pub fn can_lock(status: u8, byte: u8) -> bool
+pub(crate) fn can_lock(status: u8, byte: u8) -> bool
     ensures { λ r. ⌜ r ≡ locks status byte ⌝ }
 {
     byte / 2 % 2 == 1 && protection(status) != 3

@@ -27,7 +27,7 @@ impl IdentPage {
         (address % self.length()) as u8
     }
 
-    pub fn last(self) -> u8
+    pub(crate) fn last(self) -> u8
         ensures { λ r. ⌜ r ≡ ident-length self - 1 ⌝ }
     {
         (self.length() - 1) as u8

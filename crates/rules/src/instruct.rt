@@ -1,15 +1,14 @@
 // The eighth bit of a stretch: which instruction it is, and what becomes of it.
 ghost use mathlib.Core.Path.{_≡_};
 ghost use Rattle.rules.specs.Tables.{named, accepted};
-ghost use Rattle.rules.specs.Rules.{pushed, begun, judged};
-use super::register::push;
+ghost use Rattle.rules.specs.Rules.{begun, judged};
 use super::state::Access;
 use super::state::Instruction;
 use super::state::Phase;
 use super::state::Target;
 
 impl Instruction {
-    pub fn named(byte: u8) -> Instruction
+    pub(crate) fn named(byte: u8) -> Instruction
         ensures { λ r. ⌜ r ≡ named byte ⌝ }
     {
         match byte {
@@ -27,7 +26,7 @@ impl Instruction {
     }
 }
 
-pub fn accepts(running: bool, instruction: Instruction) -> bool
+pub(crate) fn accepts(running: bool, instruction: Instruction) -> bool
     ensures { λ r. ⌜ r ≡ accepted running instruction ⌝ }
 {
     match instruction {
@@ -64,11 +63,4 @@ pub fn judge(running: bool, wel: bool, byte: u8) -> Phase
     } else {
         Phase::Ignored
     }
-}
-
-// The eighth bit of an instruction, after these seven.
-pub(crate) fn eighth(running: bool, wel: bool, value: u8, d: bool) -> Phase
-    ensures { λ r. ⌜ r ≡ judged (accepted running (named (pushed value d))) wel (named (pushed value d)) ⌝ }
-{
-    judge(running, wel, push(value, d))
 }

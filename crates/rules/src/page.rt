@@ -27,7 +27,7 @@ pub fn keep(byte: u8) -> u8
 }
 
 impl Got {
-    pub fn one_more(self) -> Got
+    pub(crate) fn one_more(self) -> Got
         ensures { λ r. ⌜ r ≡ one-more self ⌝ }
     {
         match self {
@@ -38,7 +38,7 @@ impl Got {
 }
 
 // The byte at a page's first place, 0 where it has none.
-pub fn head(bytes: &[Option<u8>; 256]) -> u8
+pub(crate) fn head(bytes: &[Option<u8>; 256]) -> u8
     ensures { λ r. ⌜ r ≡ head-byte (now (bytes .entry)) ⌝ }
 {
     match bytes[0] {
@@ -48,7 +48,7 @@ pub fn head(bytes: &[Option<u8>; 256]) -> u8
 }
 
 // The bytes that a write puts, in place of those that came.
-pub fn put_bytes(target: Target, bytes: &mut [Option<u8>; 256])
+pub(crate) fn put_bytes(target: Target, bytes: &mut [Option<u8>; 256])
     ensures { λ _. ⌜ now (bytes .exit) ≡ put-bytes target (now (bytes .entry)) ⌝ }
 {
     match target {
@@ -62,7 +62,7 @@ pub fn put_bytes(target: Target, bytes: &mut [Option<u8>; 256])
 }
 
 impl Page {
-    pub fn new(target: Target, wel: bool, start: u32, at: u8, last: u8) -> Page
+    pub(crate) fn new(target: Target, wel: bool, start: u32, at: u8, last: u8) -> Page
         ensures { λ r. ⌜ r ≡ empty target wel start at last ⌝ }
     {
         Page {
@@ -94,7 +94,7 @@ impl Page {
         }
     }
 
-    pub fn head(&self) -> u8
+    pub(crate) fn head(&self) -> u8
         ensures { λ r. ⌜ r ≡ head-byte (now (self .entry) .bytes) ⌝ }
     {
         head(&self.bytes)

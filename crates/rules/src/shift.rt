@@ -19,7 +19,7 @@ impl Level {
 }
 
 // Bit k of a byte, the highest first.
-pub fn bit(byte: u8, k: u8) -> Level
+pub(crate) fn bit(byte: u8, k: u8) -> Level
     ensures { λ r. ⌜ r ≡ level-of (bit-of byte k) ⌝ }
 {
     if (byte >> 7u8.saturating_sub(k)) % 2 == 0 {
