@@ -70,7 +70,11 @@ pub(crate) fn making<P: Part, B: Backing>(backing: &B) -> Result<(), Fault>
 }
 
 // Whether a write counts, with W at this level.
-pub(crate) fn takes<P: Part, B: Backing>(backing: &B, protect: bool, page: &Page) -> Result<bool, Fault>
+pub(crate) fn takes<P: Part, B: Backing>(
+    backing: &B,
+    protect: bool,
+    page: &Page,
+) -> Result<bool, Fault>
     requires { ⌜ cell-count (P·Part .shape) ≤ length (B·Backing .row (now backing)) ⌝ }
     ensures { λ r. ⌜ r ≡ Ok (counts (P·Part .shape) protect (getD (cells-of (P·Part .shape) (B·Backing .row (now (backing .entry)))) (status-at (P·Part .shape)) 0) (getD (cells-of (P·Part .shape) (B·Backing .row (now (backing .entry)))) (lock-at (P·Part .shape)) 0) (now (page .entry))) ⌝ }
 {

@@ -35,7 +35,13 @@ use rules::state::Region;
 use rules::state::Shift;
 
 // The event of two bytes, unless it is refused; `off` is the level of S.
-pub(crate) fn admit(off: bool, pins: Pins, running: bool, kind: u8, level: u8) -> Result<Event, Fault>
+pub(crate) fn admit(
+    off: bool,
+    pins: Pins,
+    running: bool,
+    kind: u8,
+    level: u8,
+) -> Result<Event, Fault>
     ensures { λ r. ⌜ r ≡ admitted off pins running (decoded kind level) ⌝ }
 {
     match decode(kind, level) {

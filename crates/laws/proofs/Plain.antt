@@ -102,43 +102,6 @@ fit-says p v k l f = ap (λ o. unless-first o v (one-event v (step p v k l)) .sa
 pub fit-view : (p : Shape) (v : View) (k l : ℕ) → unfit p (v .cells) ≡ None → called p v (event k l) ≡ after v (step p v k l)
 fit-view p v k l f = ap (λ o. unless-first o v (one-event v (step p v k l)) .view) f ∙ view-is v (step p v k l)
 
-unfit-view : (v u : View) (d : Done) (o : Option Refusal) → after v d .cells ≡ u .cells → v .cells ≡ u .cells → unless-first o v (one-event v d) .view .cells ≡ u .cells
-unfit-view v u d None e f = ap (λ x. x .cells) (view-is v d) ∙ e
-unfit-view v u d (Some r) e f = f
-
--- the same of a call on any chip
-pub called-cells : (p : Shape) (v : View) (k l : ℕ) → T (calm (decoded k l)) → called p v (event k l) .cells ≡ v .cells
-called-cells p v k l c = unfit-view v v (step p v k l) (unfit p (v .cells)) (step-cells p v k l c) refl
-
--- an event whose kind is not 5 ends no cycle
-pin-calm : (pin : Bool → Event) (l : ℕ) → ((x : Bool) → T (calm (Ok (pin x)))) → T (calm (pin-event pin l))
-pin-calm pin l f =
-    elim (eqb l 0) as (λ t. T (calm (elim t as (λ _. Result Event Refusal) [ true ↦ Ok (pin false) | false ↦ elim (eqb l 1) as (λ _. Result Event Refusal) [ true ↦ Ok (pin true) | false ↦ Err BadLevel ] ]))) [
-      | true ↦ f false
-      | false ↦ elim (eqb l 1) as (λ t. T (calm (elim t as (λ _. Result Event Refusal) [ true ↦ Ok (pin true) | false ↦ Err BadLevel ]))) [ true ↦ f true | false ↦ tt ]
-    ]
-
-bare-calm : (e : Event) (l : ℕ) → T (calm (Ok e)) → T (calm (bare-event e l))
-bare-calm e l f = elim (eqb l 0) as (λ t. T (calm (elim t as (λ _. Result Event Refusal) [ true ↦ Ok e | false ↦ Err BadLevel ]))) [ true ↦ f | false ↦ tt ]
-
-either-calm : (t : Bool) (x y : Result Event Refusal) → T (calm x) → T (calm y) → T (calm (elim t as (λ _. Result Event Refusal) [ true ↦ x | false ↦ y ]))
-either-calm true x y f g = f
-either-calm false x y f g = g
-
-second-calm : (t : Bool) (x y : Result Event Refusal) → t ≡ false → T (calm y) → T (calm (elim t as (λ _. Result Event Refusal) [ true ↦ x | false ↦ y ]))
-second-calm true x y e g = absurd (true≢false e)
-second-calm false x y e g = g
-
-pub other-kind : (k l : ℕ) → (k ≡ 5 → ⊥) → T (calm (decoded k l))
-other-kind k l ne =
-    let a6 : T (calm (elim (eqb k 6) as (λ _. Result Event Refusal) [ true ↦ bare-event Power l | false ↦ Err UnknownKind ])) = either-calm (eqb k 6) (bare-event Power l) (Err UnknownKind) (bare-calm Power l tt) tt in
-    either-calm (eqb k 0) (pin-event Select l) _ (pin-calm Select l (λ _. tt))
-    (either-calm (eqb k 1) (pin-event Clock l) _ (pin-calm Clock l (λ _. tt))
-    (either-calm (eqb k 2) (pin-event Data l) _ (pin-calm Data l (λ _. tt))
-    (either-calm (eqb k 3) (pin-event Protect l) _ (pin-calm Protect l (λ _. tt))
-    (either-calm (eqb k 4) (pin-event Hold l) _ (pin-calm Hold l (λ _. tt))
-    (second-calm (eqb k 5) (bare-event CycleEnd l) _ (ne-eqb k 5 ne) a6)))))
-
 -- ---- lists
 
 abbrev pub all-calm : List Action → Bool

@@ -83,12 +83,12 @@ abbrev pub entries : List Bool
 entries =
     -- events that are refused at birth, and two that are not
     same (refusals fresh (7 ∷ 9 ∷ 7 ∷ 0 ∷ 255 ∷ 0 ∷ 0 ∷ 2 ∷ 4 ∷ 2 ∷ 5 ∷ 1 ∷ 6 ∷ 1 ∷ 0 ∷ 1 ∷ 1 ∷ 0 ∷ 2 ∷ 0 ∷ 3 ∷ 1 ∷ 4 ∷ 1 ∷ 5 ∷ 0 ∷ 6 ∷ 0 ∷ 0 ∷ 0 ∷ []))
-      (4 ∷ 4 ∷ 4 ∷ 5 ∷ 5 ∷ 5 ∷ 5 ∷ 6 ∷ 6 ∷ 6 ∷ 6 ∷ 6 ∷ 7 ∷ 0 ∷ 0 ∷ []) ∷
+    (4 ∷ 4 ∷ 4 ∷ 5 ∷ 5 ∷ 5 ∷ 5 ∷ 6 ∷ 6 ∷ 6 ∷ 6 ∷ 6 ∷ 7 ∷ 0 ∷ 0 ∷ []) ∷
     -- power off and on with S low; in a cycle; with both; with a level that it has not
     (same (refusals (selected fresh) (6 ∷ 0 ∷ 6 ∷ 1 ∷ [])) (8 ∷ 5 ∷ []) && (same (refusals in-cycle (6 ∷ 0 ∷ [])) (9 ∷ []) && same (refusals (selected in-cycle) (6 ∷ 0 ∷ [])) (8 ∷ []))) ∷
     -- a row that is too short; one that is just long enough; status cells; lock cells; and which goes first
     same (unfit-by (take 4369 (delivered-with 0x8D 2)) ∷ unfit-by (delivered-with 0x8C 1) ∷ unfit-by (delivered-with 0x8D 0) ∷ unfit-by (delivered-with 0x40 0) ∷ unfit-by (delivered-with 0 2) ∷ unfit-by (delivered-with 0x01 2) ∷ [])
-      (1 ∷ 0 ∷ 2 ∷ 2 ∷ 3 ∷ 2 ∷ []) ∷
+    (1 ∷ 0 ∷ 2 ∷ 2 ∷ 3 ∷ 2 ∷ []) ∷
     -- the protected half
     (runs (writes half (0x02 ∷ 0x00 ∷ 0x07 ∷ 0xFF ∷ 0x5A ∷ [])) && not (runs (writes half (0x02 ∷ 0x00 ∷ 0x08 ∷ 0x00 ∷ 0x5A ∷ [])))) ∷
     -- all protected: no WRITE, no WRID, no LID; WRSR counts
@@ -122,7 +122,7 @@ entries =
     same (call-says (born bench (delivered-with 0 2)) (event 7 9)) (3 ∷ 1 ∷ 0 ∷ []) ∷
     -- HOLD falls while C is high: Q stays, the fall that starts the hold shifts, and the bit shows when the hold ends
     same (level (answer (step bench before-bit-6 4 0)) ∷ level (answer (step bench (sent before-bit-6 4 0) 1 0)) ∷ level (answer (step bench (sent (sent before-bit-6 4 0) 1 0) 4 1)) ∷ [])
-      (0 ∷ 2 ∷ 1 ∷ []) ∷
+    (0 ∷ 2 ∷ 1 ∷ []) ∷
     -- WREN: S rises while HOLD is low and no hold has begun; while the chip is held
     (status-is (sent (sent (deselected (sent wren-latched 4 0)) 1 0) 4 1) 0x02 && status-is (sent (deselected (sent (sent wren-latched 1 0) 4 0)) 4 1) 0x00) ∷
     -- in a cycle the cells stay
