@@ -1,0 +1,4 @@
+pub mod Fitness
+pub mod Lines
+pub mod Rows
+pub mod Runs
