@@ -1,13 +1,11 @@
--- A number tells its refusal, or its layer, from every other.
+-- A number tells its refusal from every other.
 use Prim.Native.Nat.{ℕ}
 use mathlib.Core.Path.{_≡_, refl, sym, ap, _∙_}
 use mathlib.Core.List.{List, [], _∷_}
 use lib.ListN.{getD}
 use Rattle.backing.specs.declared.refusal.Refusal.{Refusal}
 use Rattle.backing.specs.declared.refusal.Refusal.the-variants.{ShortBacking, StatusBits, LockValue, UnknownKind, BadLevel, PinAlreadyThere, NoCycle, PowerSelected, PowerInCycle, OddLength, ShortAnswers, NoSuchPage, ShortBuffer, CycleRunning, PastRow, LongInput}
-use Rattle.backing.specs.declared.layer.Layer.{Layer}
-use Rattle.backing.specs.declared.layer.Layer.the-variants.{Making, Event, Capture, PageCopy, Backing, Program}
-use Rattle.backing.specs.Faults.{number, position, Only, Only-layer}
+use Rattle.backing.specs.Faults.{number, Only}
 
 -- what a map into the numbers tells apart, where some table gives the argument back
 apart : {A : Type 0} (f : A → ℕ) (back : ℕ → A) → ((a : A) → back (f a) ≡ a) → (a b : A) → f a ≡ f b → a ≡ b
@@ -15,9 +13,6 @@ apart f back is a b e = sym (is a) ∙ ap back e ∙ is b
 
 refusals : ℕ → Refusal
 refusals n = getD (ShortBacking ∷ ShortBacking ∷ StatusBits ∷ LockValue ∷ UnknownKind ∷ BadLevel ∷ PinAlreadyThere ∷ NoCycle ∷ PowerSelected ∷ PowerInCycle ∷ OddLength ∷ ShortAnswers ∷ NoSuchPage ∷ ShortBuffer ∷ CycleRunning ∷ PastRow ∷ LongInput ∷ []) n ShortBacking
-
-layers : ℕ → Layer
-layers n = getD (Making ∷ Making ∷ Event ∷ Capture ∷ PageCopy ∷ Backing ∷ Program ∷ []) n Making
 
 refusals-is : (a : Refusal) → refusals (number a) ≡ a
 unfolding refusals
@@ -38,17 +33,5 @@ refusals-is CycleRunning = refl
 refusals-is PastRow = refl
 refusals-is LongInput = refl
 
-layers-is : (a : Layer) → layers (position a) ≡ a
-unfolding layers
-layers-is Making = refl
-layers-is Event = refl
-layers-is Capture = refl
-layers-is PageCopy = refl
-layers-is Backing = refl
-layers-is Program = refl
-
 pub only : (a : Refusal) (n : ℕ) → n ≡ number a → Only a n
 only a n q other e = apart number refusals refusals-is other a (e ∙ q)
-
-pub only-layer : (a : Layer) (n : ℕ) → n ≡ position a → Only-layer a n
-only-layer a n q other e = apart position layers layers-is other a (e ∙ q)

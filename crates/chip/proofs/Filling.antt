@@ -30,9 +30,6 @@ long-cells p row h = length-take-le (cell-count p) row h
 pub record Filled (row : List ℕ) (from : ℕ) (out : List ℕ) (i : ℕ) : Type 0 where
   pub so-far : take i out ≡ take i (drop from row)
 
-pub filled-none : (row : List ℕ) (from : ℕ) (out : List ℕ) → Filled row from out 0
-filled-none row from out = record { so-far = refl }
-
 pub filled-more : (row : List ℕ) (from : ℕ) (out : List ℕ) (i b : ℕ) → i < length out → from + i < length row → b ≡ getD row (from + i) 0 → Filled row from out i → Filled row from (set out i b) (i + 1)
 filled-more row from out i b h k e m =
     let l : i < length (drop from row) = omega (arith, length-drop from row) in

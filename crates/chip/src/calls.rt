@@ -28,6 +28,7 @@ impl<'a, P: Part, B: Backing> Chip<'a, P, B> {
         ensures row { λ r. ⌜ B·Backing .row (behind (r .backing)) ≡ B·Backing .row (now (backing .entry)) ⌝ }
         ensures lent { λ r. ⌜ name (r .backing) ≡ name (backing .entry) ⌝ }
         ensures held { λ r. ⌜ B·Backing .held (behind (r .backing)) ≡ B·Backing .held (now (backing .entry)) ⌝ }
+        ensures past { λ r. ⌜ B·Backing .past (behind (r .backing)) ≡ B·Backing .past (now (backing .entry)) ⌝ }
     {
         Chip {
             backing,
