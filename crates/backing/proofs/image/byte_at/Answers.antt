@@ -5,7 +5,7 @@ use Rattle.backing.proofs.image.byte_at.Goals as goal
 pub returns-then-place-bytes : goal.returns-then-place-bytes
 returns-then-place-bytes c = (
   omega (arith, length_imaged c.args.bytes.now),
-  get_or_imaged c.args.bytes.now c.args.place _ (omega arith) (omega arith) refl (omega (arith, c.type-inv.bytes c.args.place)),
+  get_or_imaged c.args.bytes.now c.args.place _ (omega arith) (omega arith) refl (omega (arith, c.type_inv.bytes c.args.place)),
 )
 
 pub returns-else-place-lt-PLACES : goal.returns-else-place-lt-PLACES
