@@ -13,7 +13,7 @@ returns c =
     let low = ap (λ (i : Image). i.bytes.now) c.new-pair.ensures.first ∙ c.new.ensures.value in
     let high = ap (λ (i : Image). i.bytes.now) c.new-pair.ensures.second ∙ c.new-2.ensures.value in
     let q = ran_pair c.new-pair.result.a.bytes.now c.new-pair.result.b.bytes.now c.args.second.now room
-    (halves c.deliver.new.cells _ _ _ _ c.deliver.ensures c.split-at-mut-low.ensures.value low high) in
+    (halves c.deliver.new.cells _ _ _ _ c.deliver.ensures c.split_at_mut-low.ensures.value low high) in
     let compared = compared_at _ _ _ _ c.run.result.comparison (ap (λ (p : Outcome). p.view) o) (ap (λ (p : Outcome). p.view) q) c.run.ensures.comparison in
     record {
       first = c.run.ensures.first ∙ ap (λ (p : Outcome). p.says) o;

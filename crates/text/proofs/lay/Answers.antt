@@ -14,7 +14,7 @@ returns-then-at-out c =
 pub returns : goal.returns
 returns c =
     record {
-      buffer = laid_cut c.args.out.now c.args.at c.args.text.now _ _ _ c.min-n.result c.copy-from-slice.ensures.after (omega arith) (omega arith) c.min-n.ensures;
+      buffer = laid_cut c.args.out.now c.args.at c.args.text.now _ _ _ c.min-n.result c.copy_from_slice.ensures.after (omega arith) (omega arith) c.min-n.ensures;
       wrote = c.min-n.ensures;
       past = λ h. absurd (omega arith);
     }

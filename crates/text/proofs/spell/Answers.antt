@@ -14,8 +14,8 @@ loop-rest-init c = (
   sym (ap (λ xs. decimal c.args.n ++ xs) (drop_all 20 c.args.digits.now (omega arith)) ∙ append-nil (decimal c.args.n)),
 )
 
-pub overflow-sub-start : goal.overflow-sub-start
-overflow-sub-start c = omega (arith, decimal_nonempty c.loop-rest.rest (omega arith))
+pub overflow_sub-start : goal.overflow_sub-start
+overflow_sub-start c = omega (arith, decimal_nonempty c.loop-rest.rest (omega arith))
 
 pub loop-rest-preserved : goal.loop-rest-preserved
 loop-rest-preserved c =
@@ -28,8 +28,8 @@ loop-rest-preserved c =
       spelled_more c.args.n c.loop-rest.rest c.loop-rest.digits c.loop-rest.start _ (omega arith) (omega arith) f (omega arith) c.loop-rest.invariant.4,
     )
 
-pub overflow-sub-start-2 : goal.overflow-sub-start-2
-overflow-sub-start-2 c = omega (arith, decimal_nonempty c.loop-rest.rest (omega arith))
+pub overflow_sub-start-2 : goal.overflow_sub-start-2
+overflow_sub-start-2 c = omega (arith, decimal_nonempty c.loop-rest.rest (omega arith))
 
 pub returns : goal.returns
 returns c =

@@ -7,8 +7,8 @@ pub loop-i-preserved : goal.loop-i-preserved
 loop-i-preserved g c =
     let cells = cells_of g.P.Part.shape (g.B.Backing.row c.args.backing.now) in
     let i = c.loop-i.i in
-    let q = c.in-ok-out.ensures in
-    let e : c.in-ok-out.field-0 ≡ get_or cells (c.args.from + i) 0 = cc in
+    let q = c.in_ok-out.ensures in
+    let e : c.in_ok-out.field-0 ≡ get_or cells (c.args.from + i) 0 = cc in
     let l = long_cells g.P.Part.shape (g.B.Backing.row c.args.backing.now) c.requires.2 in
     filled_more cells c.args.from c.loop-i.out i _ (omega arith) (omega arith) e c.loop-i.invariant
 

@@ -8,17 +8,17 @@ returns-then-branch g c =
     let p = g.P.Part.shape in
     compared_same p g.met.P.Part.lawful
     (view_of p g.A.Backing.row c.args.a.now) (view_of p g.B.Backing.row c.args.b.now)
-    c.in-ok-making.field-0 c.in-ok-making-2.field-0
-    c.in-ok-making.ensures.value c.in-ok-making-2.ensures.value
+    c.in_ok-making.field-0 c.in_ok-making-2.field-0
+    c.in_ok-making.ensures.value c.in_ok-making-2.ensures.value
     (search rules) (search rules) (search rules) (search rules)
     (search rules)
 
-pub returns-else-same-pins : goal.returns-else-same-pins
-returns-else-same-pins g c =
+pub returns-else-same_pins : goal.returns-else-same_pins
+returns-else-same_pins g c =
     let p = g.P.Part.shape in
     compared_different p g.met.P.Part.lawful
     (view_of p g.A.Backing.row c.args.a.now) (view_of p g.B.Backing.row c.args.b.now)
-    c.in-ok-making.field-0 c.in-ok-making-2.field-0
-    c.in-ok-making.ensures.value c.in-ok-making-2.ensures.value
+    c.in_ok-making.field-0 c.in_ok-making-2.field-0
+    c.in_ok-making.ensures.value c.in_ok-making-2.ensures.value
     (search rules) (search rules) (search rules) (search rules)
     (λ q. search rules)

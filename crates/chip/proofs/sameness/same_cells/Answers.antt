@@ -12,8 +12,8 @@ loop-i-preserved g c =
     let xs = cells_of p (g.A.Backing.row c.args.a.now) in
     let ys = cells_of p (g.B.Backing.row c.args.b.now) in
     let i = c.loop-i.i in
-    let ex = c.in-ok-x.ensures in
-    let ey = c.in-ok-y.ensures in
+    let ex = c.in_ok-x.ensures in
+    let ey = c.in_ok-y.ensures in
     let here : get_or xs i 0 ≡ get_or ys i 0 = sym (ap (λ r. result_unwrap_or r 0) ex) ∙ c.if-x-y.false ∙ ap (λ r. result_unwrap_or r 0) ey in
     below_more (λ k. get_or xs k 0 ≡ get_or ys k 0) i c.loop-i.invariant here
 

@@ -3,19 +3,19 @@ use Rattle.chip.specs.Shows.{view_of}
 use Rattle.chip.proofs.Rows.{ended_view, laid_kept}
 use Rattle.chip.proofs.unit.Chip.cycle_end.Goals as goal
 
-pub returns-in-ok-lay : goal.returns-in-ok-lay
-returns-in-ok-lay g c =
+pub returns-in_ok-lay : goal.returns-in_ok-lay
+returns-in_ok-lay g c =
     let p = g.P.Part.shape in
     let row = g.B.Backing.row in
     let x = c.args.self.now.backing.now in
     let y = c.lay.new.backing in
     let w = c.in-Busy.write in
-    let at = c.base-of-base.result in
-    let len = c.reach-of.result in
-    let e = c.in-ok-lay.ensures in
+    let at = c.base_of-base.result in
+    let len = c.reach_of.result in
+    let e = c.in_ok-lay.ensures in
     record {
       made = refl;
-      view = ended_view p (view_of p row c.args.self.now) w (row x) (row y) at len refl c.in-Busy.is c.base-of-base.ensures.value c.reach-of.ensures.0 e.row;
+      view = ended_view p (view_of p row c.args.self.now) w (row x) (row y) at len refl c.in-Busy.is c.base_of-base.ensures.value c.reach_of.ensures.0 e.row;
       lent = refl;
-      kept = laid_kept p row g.B.Backing.past g.B.Backing.held x y at len w.bytes (omega (arith, c.base-of-base.ensures.within.0, c.reach-of.ensures.0)) e.row e.held e.past;
+      kept = laid_kept p row g.B.Backing.past g.B.Backing.held x y at len w.bytes (omega (arith, c.base_of-base.ensures.within.0, c.reach_of.ensures.0)) e.row e.held e.past;
     }

@@ -9,6 +9,6 @@ returns g c =
     record {
       says =
           copy_says g.P.Part.shape (view_of g.P.Part.shape g.B.Backing.row c.args.self.now) c.args.page c.args.at (length c.args.buffer.now)
-          c.in-ok-making.ensures.value (omega arith) (omega arith) (sym c.runs.ensures ∙ c.if-runs.false);
+          c.in_ok-making.ensures.value (omega arith) (omega arith) (sym c.runs.ensures ∙ c.if-runs.false);
       buffer = laid_mid c.args.at _ 256 c.args.buffer.now _ c.fill.new.out k c.fill.ensures.out;
     }

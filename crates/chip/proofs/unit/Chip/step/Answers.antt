@@ -6,12 +6,12 @@ use Rattle.chip.specs.Shows.{view_of}
 use Rattle.chip.proofs.Steps.{step_taken, step_refused, answer_taken}
 use Rattle.chip.proofs.unit.Chip.step.Goals as goal
 
-pub returns-in-err-event : goal.returns-in-err-event
-returns-in-err-event g c =
+pub returns-in_err-event : goal.returns-in_err-event
+returns-in_err-event g c =
     let p = g.P.Part.shape in
     let v = view_of p g.B.Backing.row c.args.self.now in
-    let t = step_refused p v c.is-off-off.result c.runs.result c.args.kind c.args.level c.in-err-event.field-0.0 c.is-off-off.ensures c.runs.ensures c.in-err-event.ensures in
-    let e : c.from-residual.result ≡ Err c.in-err-event.field-0.0 = search rules in
+    let t = step_refused p v c.is_off-off.result c.runs.result c.args.kind c.args.level c.in_err-event.field-0.0 c.is_off-off.ensures c.runs.ensures c.in_err-event.ensures in
+    let e : c.from_residual.result ≡ Err c.in_err-event.field-0.0 = search rules in
     record {
       answer = e ∙ t.0;
       view = t.1;
@@ -24,7 +24,7 @@ returns g c =
     let p = g.P.Part.shape in
     let v = view_of p g.B.Backing.row c.args.self.now in
     let w = view_of p g.B.Backing.row c.apply.new.self in
-    let t = step_taken p v c.is-off-off.result c.runs.result c.args.kind c.args.level c.in-ok-event.event c.is-off-off.ensures c.runs.ensures c.in-ok-event.ensures in
+    let t = step_taken p v c.is_off-off.result c.runs.result c.args.kind c.args.level c.in_ok-event.event c.is_off-off.ensures c.runs.ensures c.in_ok-event.ensures in
     let a = c.apply.ensures.view in
     record {
       answer = answer_taken w (step p v c.args.kind c.args.level) c.seen.result (t ∙ ap taken (sym a)) c.seen.ensures;

@@ -16,10 +16,10 @@ returns c =
     let place = c.args.self.now.place in
     let xs = c.args.self.now.capture.now in
     let e = take_rest xs place in
-    let l = ap length (c.bytes.ensures ∙ sym (shown_bytes (place / 2) c.first-part-stretch.result)) in
-    let q = c.first-part-stretch.ensures (place / 2) in
-    let w = handed_within place xs _ (shown_as (place / 2) c.first-part-stretch.result) _ e c.if-place-capture.false q l in
+    let l = ap length (c.bytes.ensures ∙ sym (shown_bytes (place / 2) c.first_part-stretch.result)) in
+    let q = c.first_part-stretch.ensures (place / 2) in
+    let w = handed_within place xs _ (shown_as (place / 2) c.first_part-stretch.result) _ e c.if-place-capture.false q l in
     record {
-      steps = handed place xs _ (shown_as (place / 2) c.first-part-stretch.result) _ e c.if-place-capture.false q l;
+      steps = handed place xs _ (shown_as (place / 2) c.first_part-stretch.result) _ e c.if-place-capture.false q l;
       goes = search rules;
     }
