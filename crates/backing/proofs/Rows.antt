@@ -1,5 +1,5 @@
 -- Rows of an image and of a pair: their lengths and places, and what a call on a part is for the whole.
-use Rattle.std.proofs.Common.{◌≡◌, ℕ, ◌+◌, ◌-◌, ◌%◌, ◌<◌, ◌≤◌, min, List, [], ◌∷◌, ◌++◌, map, length, get_or, take, drop, set, Ok, Err, Result, sym, refl, ap, ◌∙◌, mod-eq_of_lt, arith, length-append, length-set, drop-set-lt}
+use Rattle.std.proofs.Common.{◌≡◌, ℕ, ◌+◌, ◌-◌, ◌%◌, ◌<◌, ◌≤◌, min, List, ◌++◌, map, length, get_or, take, set, Ok, Err, Result, sym, ap, ◌∙◌, mod-eq_of_lt, arith, length-append, drop-set-lt}
 use lib.Seq.{take-set-lt}
 use Rattle.std.proofs.lemmas.List.{length-take, length-map, get_or-take, get_or-map, map-set, set-append_left, set-append_right, get_or_append_left, get_or-append_right}
 use Rattle.std.proofs.lemmas.Result.{MatchResult-weaker}

@@ -1,5 +1,5 @@
 -- The rows of an image and of a pair are rows of bytes: what their ghost members show.
-use Rattle.std.specs.Prelude.{ℕ, zero, suc, ◌%◌, ◌<◌, List, [], ◌∷◌, ◌++◌, map, get_or, take}
+use Rattle.std.specs.Prelude.{ℕ, zero, suc, ◌%◌, List, [], ◌∷◌, ◌++◌, map, take}
 use Rattle.std.proofs.Common.{mod-lt, lit<}
 use Rattle.backing.specs.Rows.{Bytes, capped, imaged, paired}
 

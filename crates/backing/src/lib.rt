@@ -1,4 +1,6 @@
 // Faults, the meaning of a backing, and the two backings: an image and a joined pair.
+#![tactic(auto)]
+
 pub mod fault;
 pub mod image;
 pub mod layer;

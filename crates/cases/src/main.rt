@@ -1,4 +1,6 @@
 // Runs captures on delivered bench parts, each under its name, and then the single calls of a table.
+#![tactic(auto)]
+
 use anyhow::anyhow;
 use backing::fault::Fault;
 use backing::image::Image;

@@ -1,7 +1,7 @@
 -- The unique ID laid byte by byte.
-use Rattle.std.proofs.Common.{◌≡◌, ℕ, zero, suc, ◌+◌, ◌-◌, ◌<◌, ◌≤◌, List, [], ◌∷◌, ◌++◌, length, set, replicate, sym, refl, ap, ◌∙◌, append_assoc, arith}
+use Rattle.std.proofs.Common.{◌≡◌, ℕ, zero, suc, ◌+◌, ◌-◌, ◌<◌, List, [], ◌∷◌, ◌++◌, length, set, replicate, sym, refl, ap, ◌∙◌, append_assoc, arith}
 use lib.ListN.{length-replicate}
-use Rattle.std.proofs.lemmas.List.{set-append_right, set_at, length_push}
+use Rattle.std.proofs.lemmas.List.{set-append_right, set_at}
 use Rattle.laws.specs.Bench.{counted}
 
 counted_push : (n k : ℕ) → counted (suc n) k ≡ counted n k ++ ((n + k) ∷ [])

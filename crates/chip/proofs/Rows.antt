@@ -1,5 +1,5 @@
 -- The part's cells in a row: reading them, judging them, putting a write into them.
-use Rattle.std.proofs.Common.{◌≡◌, ℕ, zero, suc, ◌+◌, ◌-◌, ◌<◌, ◌≤◌, min, Bool, true, false, eqb, ltb, List, [], ◌∷◌, ◌++◌, length, get_or, take, drop, Some, None, Ok, Err, Option, Result, sym, refl, ap, ◌∙◌, arith}
+use Rattle.std.proofs.Common.{◌≡◌, ℕ, zero, suc, ◌+◌, ◌<◌, ◌≤◌, min, true, false, List, [], ◌∷◌, length, get_or, take, drop, Some, Ok, Err, Option, Result, sym, refl, ap, ◌∙◌, arith}
 use package.base.Fml.{GName}
 use Rattle.std.proofs.lemmas.List.{get_or-take, length-take}
 use Rattle.std.proofs.lemmas.Bool.{lt-ltb, le-ltb}
@@ -15,7 +15,7 @@ use Rattle.rules.specs.declared.state.Cycle.TheVariants.{Idle, Busy}
 use Rattle.rules.specs.Rules.{View, laid, over, base, reach, ended}
 use Rattle.chip.specs.Shows.{cells_of, Kept}
 use Rattle.chip.specs.Answers.{checked, unlawful}
-use Rattle.chip.proofs.Laying.{over_nil, length_laid}
+use Rattle.chip.proofs.Laying.{length_laid}
 
 pub read_is : (p : Shape) (row : List ℕ) (place : ℕ) (r : Result ℕ Fault) → place < cell_count p → cell_count p ≤ length row → Reads row place r → r ≡ Ok (get_or (cells_of p row) place 0)
 unfolding cells_of

@@ -1,4 +1,6 @@
 // The chip: its parts, its calls, and when two chips are the same.
+#![tactic(auto)]
+
 pub mod calls;
 mod captures;
 mod cells;

@@ -1,4 +1,6 @@
 // Runs two captures, each on a delivered bench part of its own, and tells whether they leave the same chip.
+#![tactic(auto)]
+
 use anyhow::anyhow;
 use comparing::compare;
 use comparing::telling::tell;

@@ -5,7 +5,6 @@ use Rattle.backing.specs.declared.fault.Fault.{Fault}
 use Rattle.backing.specs.declared.refusal.Refusal.{Refusal}
 use Rattle.rules.specs.Shape.{Lawful, cell_count}
 use Rattle.rules.specs.Tables.{unfit}
-use Rattle.rules.specs.Rules.{View}
 use Rattle.rules.specs.Calls.{capture}
 use Rattle.laws.specs.Bench.{bench, delivered}
 use Rattle.laws.proofs.Main.{cells_stand}

@@ -1,4 +1,6 @@
 // Two captures, each on a delivered bench part of its own, and whether they leave the same chip.
+#![tactic(auto)]
+
 ghost use Rattle.std.specs.Prelude.{◌≡◌, true, length, is_ok};
 ghost use Rattle.rules.specs.Calls.{written};
 ghost use Rattle.laws.specs.Bench.{bench};
@@ -135,7 +137,7 @@ mod tests {
         assert!(rt;
             n <= 192
                 && &text[0..n]
-                    == b"first: 56 records\nsecond: 20 records\nnot compared: cycle running\n"
+                    == b"first: 56 records\nsecond: 20 records\nnot compared: cycle running\n".as_slice()
         );
     }
 }

@@ -1,4 +1,6 @@
 // Runs the capture on standard input on a delivered bench part, and prints Q after each record.
+#![tactic(auto)]
+
 use edges_text::{MOST, edges};
 use std::io::{Read, Write};
 

@@ -1,4 +1,6 @@
 // The text of a capture run on a delivered bench part.
+#![tactic(auto)]
+
 ghost use Rattle.std.specs.Prelude.{◌≡◌, min, List, ◌++◌, map, length, codes};
 ghost use Rattle.rules.specs.declared.state.Level.{Level as Q};
 ghost use Rattle.rules.specs.Tables.{level_number};

@@ -1,5 +1,5 @@
 -- A delivered part's row is a row of bytes.
-use Rattle.std.proofs.Common.{◌≡◌, ℕ, zero, suc, ◌+◌, ◌<◌, ◌≤◌, Bool, true, ◌&&◌, T, ltb, List, [], ◌∷◌, get_or, refl, subst, lit<, ltb→lt, ltb-true}
+use Rattle.std.proofs.Common.{◌≡◌, ℕ, zero, suc, Bool, true, ◌&&◌, ltb, List, [], ◌∷◌, refl, lit<, ltb-true}
 use Rattle.backing.specs.Rows.{Bytes}
 use Rattle.std.proofs.lemmas.Bool.{and_parts}
 use Rattle.laws.specs.Bench.{delivered}

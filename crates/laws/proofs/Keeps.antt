@@ -1,11 +1,8 @@
 -- The journal keeps what the chip shows.
-use Rattle.std.proofs.Common.{◌≡◌, ℕ, zero, suc, ◌+◌, ◌-◌, ◌*◌, ◌/◌, ◌%◌, ◌^◌, ◌<◌, ◌≤◌, Bool, true, false, cond, not, ◌&&◌, ◌||◌, eqb, ltb, leb, ◌⊎◌, List, [], ◌∷◌, ◌++◌, length, get_or, take, drop, set, replicate, Some, None, Option, sym, refl, ap, ◌∙◌, subst, inl, inr, append_assoc, append-nil, arith, length-append}
-use mathlib.Core.Bool.{beq}
-use Rattle.std.proofs.lemmas.Bool.{eq-eqb, ne_eqb, le-leb, lt-leb, cases_eq, cases_lt, both_ways}
+use Rattle.std.proofs.Common.{◌≡◌, ℕ, ◌+◌, ◌-◌, ◌%◌, ◌<◌, Bool, true, false, not, ◌&&◌, eqb, ltb, ◌⊎◌, List, [], ◌∷◌, ◌++◌, length, get_or, take, sym, refl, ap, ◌∙◌, inl, inr}
+use Rattle.std.proofs.lemmas.Bool.{both_ways}
 use Rattle.rules.specs.declared.state.Level.{Level}
-use Rattle.rules.specs.declared.state.Level.TheVariants.{Low, High, Float}
-use Rattle.rules.specs.declared.state.Event.{Event}
-use Rattle.rules.specs.declared.state.Event.TheVariants.{Select, Clock, Data, Protect, Hold, CycleEnd, Power}
+use Rattle.rules.specs.declared.state.Level.TheVariants.{Float}
 use Rattle.rules.specs.declared.state.Instruction.{Instruction}
 use Rattle.rules.specs.declared.state.Instruction.TheVariants as name
 use Rattle.rules.specs.declared.state.Access.{Access}
@@ -13,18 +10,16 @@ use Rattle.rules.specs.declared.state.Access.TheVariants as access
 use Rattle.rules.specs.declared.state.Region.TheVariants as region
 use Rattle.rules.specs.declared.state.Target.TheVariants as target
 use Rattle.rules.specs.declared.state.Shift.{Shift}
-use Rattle.rules.specs.declared.state.Page.{Page}
 use Rattle.rules.specs.declared.state.Cycle.{Cycle}
 use Rattle.rules.specs.declared.state.Cycle.TheVariants.{Idle, Busy}
 use Rattle.rules.specs.declared.state.Phase.{Phase}
 use Rattle.rules.specs.declared.state.Phase.TheVariants.{Deselected, Instruction as Instructing, Ignored, Enable, Disable, Status, Address, Output, Input}
-use Rattle.rules.specs.Shape.{Shape, Lawful, status_at, lock_at, cell_count}
-use Rattle.rules.specs.Tables.{to_number, named, accepted, a10, status_byte, bit_of, level_of}
+use Rattle.rules.specs.Shape.{Shape, cell_count}
+use Rattle.rules.specs.Tables.{named, accepted, a10}
 use Rattle.rules.specs.Rules as rule
 use Rattle.rules.specs.Rules.{View, running, is_off, judged, begun, latched, place, at_rest, pushed, filled, aimed, laid, base, reach, moved, shifted, shift_out, same_shown, closed, counts}
-use Rattle.laws.specs.Journal as note
-use Rattle.laws.specs.Journal.{Journal, Noted, unread, noted, Entry, wren_done, wrdi_done, cycle_end, power_cycle, wrote, if_so, enabled, cycle_runs, put_at, byte_of, number, noting, lists, closes, notes}
-use Rattle.laws.proofs.Bits.{goes_on, goes_on_push, number_push, number_lt, entry, stretch_lists, stretch_ignored}
+use Rattle.laws.specs.Journal.{Journal, Noted, unread, noted, Entry, enabled, cycle_runs, byte_of, number}
+use Rattle.laws.proofs.Bits.{goes_on}
 use Rattle.laws.proofs.Regions.{status_phase}
 
 -- the cells as they will be once a running cycle has ended

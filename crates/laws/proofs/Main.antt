@@ -1,5 +1,5 @@
 -- The laws over whole runs.
-use Rattle.std.proofs.Common.{◌≡◌, ℕ, zero, suc, ◌+◌, ◌-◌, ◌*◌, ◌/◌, ◌%◌, ◌<◌, ◌≤◌, min, Bool, true, false, eqb, ltb, ◌⊎◌, ◌↔◌, List, [], ◌∷◌, ◌++◌, length, get_or, take, drop, Some, None, Ok, Err, Option, Result, sym, refl, ap, ◌∙◌, subst, inl, inr, arith, lit<, length-take}
+use Rattle.std.proofs.Common.{◌≡◌, ℕ, suc, ◌+◌, ◌-◌, ◌*◌, ◌/◌, ◌%◌, ◌<◌, ◌≤◌, min, true, false, ltb, List, [], ◌∷◌, ◌++◌, length, get_or, take, drop, Some, None, Ok, Err, Option, Result, sym, refl, ap, ◌∙◌, subst, inl, inr, arith, lit<, length-take}
 use Rattle.std.proofs.lemmas.Bool.{eq-eqb, le-ltb, cases_lt, both_ways}
 use Rattle.std.proofs.lemmas.List.{get_or-take, get_or_past, ext_get_or, length-append, length-drop, length-take-le, drop_all, drop_at}
 use Rattle.backing.specs.Faults.{raised}
@@ -9,7 +9,6 @@ use Rattle.backing.specs.declared.refusal.Refusal.TheVariants.{OddLength, ShortA
 use Rattle.backing.specs.declared.fault.Fault.{Fault}
 use Rattle.rules.specs.declared.state.Level.{Level}
 use Rattle.rules.specs.declared.state.Phase.TheVariants.{Deselected}
-use Rattle.rules.specs.declared.state.Cycle.TheVariants.{Idle}
 use Rattle.rules.specs.Shape.{Shape, Lawful, cell_count}
 use Rattle.rules.specs.Tables.{named, unfit, refused_capture, refused_copy}
 use Rattle.rules.specs.Rules as rule
@@ -23,9 +22,9 @@ use Rattle.laws.specs.Laws.{Action, send, call_of, answers, as_number, first_of,
 use Rattle.laws.proofs.Bits.{goes_on}
 use Rattle.laws.proofs.Keeps.{Tracks, tracks, resting, young, old, late_off, late_old}
 use Rattle.laws.proofs.Sound.{SoundList, byte_by}
-use Rattle.laws.proofs.Plain.{fit_says, fit_view}
+use Rattle.laws.proofs.Plain.{fit_says}
 use Rattle.laws.proofs.Tell.{tells, fit_length}
-use Rattle.laws.proofs.Runs.{Stands, stays_fit, birth_stands, event_stands, event_alike, call_stands, history_stands, unfit_call, unfit_history, unfit_noted, unfit_journal}
+use Rattle.laws.proofs.Runs.{Stands, stays_fit, birth_stands, event_stands, event_alike, call_stands, history_stands, unfit_call, unfit_history, unfit_journal}
 
 -- a history on a fit birth row
 stands : (p : Shape) → Lawful p → (birth : List ℕ) → unfit p (take (cell_count p) birth) ≡ None → (h : List Call) → Stands p birth (law.journal_after p birth h) (chip_after p birth h)

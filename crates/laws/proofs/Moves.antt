@@ -1,13 +1,11 @@
 -- Each taken event keeps the tie between journal and chip.
-use Rattle.std.proofs.Common.{◌≡◌, ℕ, zero, suc, ◌+◌, ◌-◌, ◌*◌, ◌/◌, ◌%◌, ◌^◌, ◌<◌, ◌≤◌, Bool, true, false, cond, not, ◌&&◌, ◌||◌, eqb, ltb, leb, ◌⊎◌, List, [], ◌∷◌, ◌++◌, length, get_or, take, drop, set, replicate, Some, None, Option, sym, refl, ap, ◌∙◌, subst, inl, inr, append_assoc, append-nil, mod-eq_of_lt, arith, length-append}
-use mathlib.Core.Bool.{beq}
+use Rattle.std.proofs.Common.{◌≡◌, ℕ, zero, suc, ◌+◌, ◌-◌, ◌<◌, Bool, true, false, cond, not, ◌&&◌, leb, List, [], ◌∷◌, ◌++◌, length, get_or, take, None, Option, sym, refl, ap, ◌∙◌, subst, inl, inr, append_assoc, append-nil, arith, length-append}
 use native.Mathlib.Nat.{suc-sub-suc, sub-zero}
 use lib.Dec.{leb-zero, leb-suc-suc, leb-suc-zero}
-use Rattle.std.proofs.lemmas.Bool.{eq-eqb, ne_eqb, le-leb, lt-leb, lt-ltb, le-ltb, cases_eq, cases_lt, both_ways}
-use Rattle.std.proofs.lemmas.List.{take_at, drop_at, length-drop}
+use Rattle.std.proofs.lemmas.Bool.{eq-eqb, ne_eqb, lt-ltb, le-ltb, cases_lt, both_ways}
+use Rattle.std.proofs.lemmas.List.{take_at}
 use Rattle.rules.specs.declared.state.Level.{Level}
-use Rattle.rules.specs.declared.state.Level.TheVariants.{Low, High, Float}
-use Rattle.rules.specs.declared.state.Event.{Event}
+use Rattle.rules.specs.declared.state.Level.TheVariants.{Float}
 use Rattle.rules.specs.declared.state.Event.TheVariants.{Select, Clock, Data, Protect, Hold, CycleEnd, Power}
 use Rattle.rules.specs.declared.state.Instruction.{Instruction}
 use Rattle.rules.specs.declared.state.Instruction.TheVariants as name
@@ -17,15 +15,14 @@ use Rattle.rules.specs.declared.state.Cycle.{Cycle}
 use Rattle.rules.specs.declared.state.Cycle.TheVariants.{Idle, Busy}
 use Rattle.rules.specs.declared.state.Phase.{Phase}
 use Rattle.rules.specs.declared.state.Phase.TheVariants.{Deselected, Instruction as Instructing, Ignored, Enable, Disable, Status, Address, Output, Input}
-use Rattle.rules.specs.Shape.{Shape, Lawful, status_at, lock_at, cell_count}
-use Rattle.rules.specs.Tables.{to_number, named, accepted, or}
+use Rattle.rules.specs.Shape.{Shape, Lawful, status_at, lock_at}
+use Rattle.rules.specs.Tables.{named, accepted, or}
 use Rattle.rules.specs.Rules as rule
 use Rattle.rules.specs.Rules.{View, running, is_off, judged, latched, at_rest, pushed, laid, over, base, reach, moved, closed, counts, pending, begun, shifted}
-use Rattle.laws.specs.Journal as note
-use Rattle.laws.specs.Journal.{Journal, Noted, unread, noted, Entry, wren_done, wrdi_done, cycle_end, power_cycle, wrote, if_so, enabled, cycle_runs, put_at, byte_of, number, noting, lists, closes, notes, puts_out, samples}
+use Rattle.laws.specs.Journal.{Journal, Noted, unread, noted, Entry, wren_done, wrdi_done, cycle_end, wrote, if_so, enabled, cycle_runs, put_at, byte_of, number, noting, lists, closes, notes, puts_out, samples}
 use Rattle.laws.proofs.Bits.{goes_on, goes_on_push, pushed_number, entry, stretch_lists, stretch_ignored}
 use Rattle.laws.proofs.Outputs.{Shifts, outs, ignores, status}
-use Rattle.laws.proofs.Keeps.{pend, Mem, SampleOk, Fits, resting, young, old, Tracks, tracks, jr, vw, late, late_off, late_old, latched_late, sample_latched, calm, only_rdsr, ignored_on}
+use Rattle.laws.proofs.Keeps.{pend, Mem, SampleOk, Fits, resting, young, old, Tracks, tracks, jr, vw, late, late_off, late_old, latched_late, sample_latched, calm, only_rdsr}
 
 -- ---- a write put into the cells
 

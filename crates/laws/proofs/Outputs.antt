@@ -1,7 +1,7 @@
 -- A shifting fall of C puts out what the journal says.
-use Rattle.std.proofs.Common.{◌≡◌, ℕ, zero, suc, ◌+◌, ◌-◌, ◌*◌, ◌/◌, ◌%◌, ◌^◌, ◌<◌, ◌≤◌, Bool, true, false, cond, not, ◌&&◌, ◌||◌, eqb, ltb, leb, ◌⊎◌, List, [], ◌∷◌, ◌++◌, length, get_or, take, drop, Some, None, sym, refl, ap, ◌∙◌, subst, inl, inr, mod-lt, arith, length-append, pow_pos}
+use Rattle.std.proofs.Common.{◌≡◌, ℕ, ◌+◌, ◌-◌, ◌/◌, ◌%◌, ◌^◌, ◌<◌, ◌≤◌, Bool, true, false, cond, eqb, ltb, List, [], ◌∷◌, ◌++◌, length, get_or, take, drop, sym, refl, ap, ◌∙◌, subst, inl, inr, mod-lt, arith, length-append, pow_pos}
 use Rattle.std.proofs.lemmas.Bool.{le-leb, lt-leb, cases_lt, both_ways}
-use Rattle.std.proofs.lemmas.List.{take_at, drop_at, length-drop, length-take-le}
+use Rattle.std.proofs.lemmas.List.{drop_at, length-drop, length-take-le}
 use Rattle.rules.specs.declared.state.Level.{Level}
 use Rattle.rules.specs.declared.state.Instruction.{Instruction}
 use Rattle.rules.specs.declared.state.Instruction.TheVariants as name
@@ -16,14 +16,13 @@ use Rattle.rules.specs.declared.state.Cycle.{Cycle}
 use Rattle.rules.specs.declared.state.Phase.{Phase}
 use Rattle.rules.specs.declared.state.Phase.TheVariants.{Deselected, Instruction as Instructing, Ignored, Enable, Disable, Status, Address, Output, Input}
 use Rattle.rules.specs.Shape.{Shape, Lawful, array_len, ident_at, unique_at, status_at, lock_at, cell_count}
-use Rattle.rules.specs.Tables.{to_number, named, a10, status_byte, bit_of, level_of}
+use Rattle.rules.specs.Tables.{a10, status_byte, bit_of, level_of}
 use Rattle.rules.specs.Rules as rule
 use Rattle.rules.specs.Rules.{View, running, judged, begun, latched, place, aimed, filled, shifted, shift_out, same_shown}
-use Rattle.laws.specs.Journal as note
 use Rattle.laws.specs.Journal.{Entry, enabled, cycle_runs, byte_of, number, address, read_place, read_bit, puts_out, samples}
 use Rattle.laws.proofs.Bits.{goes_on, number_lt, address_part, address_full}
 use Rattle.laws.proofs.Regions.{status_phase, output_phase, read_place_is}
-use Rattle.laws.proofs.Keeps.{pick, vw, Mem, SampleOk, late, ignored_on}
+use Rattle.laws.proofs.Keeps.{pick, vw, Mem, SampleOk, ignored_on}
 
 -- phases that put nothing out
 abbrev silent : Phase → Bool

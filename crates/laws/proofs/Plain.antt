@@ -1,8 +1,6 @@
 -- Events that end no cycle leave the cells: on a fit chip their answers are those of step alone.
-use Rattle.std.proofs.Common.{◌≡◌, ℕ, Bool, true, false, ◌&&◌, T, eqb, List, [], ◌∷◌, get_or, Some, None, Ok, Err, Option, Result, sym, refl, ap, ◌∙◌}
-use Rattle.std.proofs.lemmas.Bool.{ne_eqb, true≢false}
+use Rattle.std.proofs.Common.{◌≡◌, ℕ, Bool, true, false, ◌&&◌, T, List, [], ◌∷◌, get_or, Some, None, Ok, Err, Option, Result, sym, refl, ap, ◌∙◌}
 use Rattle.backing.specs.declared.refusal.Refusal.{Refusal}
-use Rattle.backing.specs.declared.refusal.Refusal.TheVariants.{BadLevel, UnknownKind}
 use Rattle.backing.specs.declared.fault.Fault.{Fault}
 use Rattle.rules.specs.declared.state.Event.{Event}
 use Rattle.rules.specs.declared.state.Event.TheVariants.{Select, Clock, Data, Protect, Hold, CycleEnd, Power}
@@ -10,7 +8,7 @@ use Rattle.rules.specs.declared.state.Cycle.TheVariants.{Busy}
 use Rattle.rules.specs.declared.state.Phase.{Phase}
 use Rattle.rules.specs.declared.state.Phase.TheVariants.{Deselected, Instruction as Instructing, Ignored, Enable, Disable, Status, Address, Output, Input}
 use Rattle.rules.specs.Shape.{Shape, status_at, lock_at}
-use Rattle.rules.specs.Tables.{decoded, pin_event, bare_event, unfit}
+use Rattle.rules.specs.Tables.{decoded, unfit}
 use Rattle.rules.specs.Rules.{View, Done, taken, refused, step, does, unless, refuses, moved, after, answer, closed, deselected, pending, counts, rises_s, rises_c, falls_c, holds}
 use Rattle.rules.specs.Calls.{outcome, called, event, one_event, unless as unless_first}
 use Rattle.laws.specs.Laws.{Action, send, answers, as_number, of_bytes, Alike}

@@ -1,5 +1,5 @@
 -- After every history the journal keeps what the chip shows.
-use Rattle.std.proofs.Common.{◌≡◌, ℕ, zero, suc, ◌+◌, ◌-◌, ◌*◌, ◌/◌, ◌%◌, ◌<◌, ◌≤◌, min, Bool, true, false, eqb, ltb, List, [], ◌∷◌, length, get_or, take, Some, None, Ok, Err, Option, Result, sym, refl, ap, ◌∙◌, subst, arith, length-take}
+use Rattle.std.proofs.Common.{◌≡◌, ℕ, ◌+◌, ◌<◌, ◌≤◌, min, true, false, eqb, ltb, List, [], ◌∷◌, length, get_or, take, Some, None, Ok, Err, Option, Result, sym, refl, ap, ◌∙◌, subst, arith, length-take}
 use Rattle.std.proofs.lemmas.Bool.{eq-eqb, le-ltb}
 use Rattle.std.proofs.lemmas.List.{get_or-take}
 use Rattle.backing.specs.Faults.{raised}
@@ -15,9 +15,9 @@ use Rattle.rules.specs.Calls as call
 use Rattle.rules.specs.Calls.{Call, event, capture, copy, Outcome, records, outcome, called, after_calls}
 use Rattle.laws.specs.Journal as note
 use Rattle.laws.specs.Journal.{Journal, blank, Noting, took, turned, journal_step, journal_records, kept_by, noted_call, journal_of}
-use Rattle.laws.proofs.Keeps.{Mem, resting, Tracks, tracks}
-use Rattle.laws.proofs.Steps.{Both, together}
-use Rattle.laws.proofs.Sound.{Sound, SoundList, byte_by, noting_sound}
+use Rattle.laws.proofs.Keeps.{resting, Tracks, tracks}
+use Rattle.laws.proofs.Steps.{together}
+use Rattle.laws.proofs.Sound.{SoundList, byte_by, noting_sound}
 use Rattle.laws.proofs.Tell.{fit_length, fit_status, fit_lock}
 
 -- the tie that every history keeps

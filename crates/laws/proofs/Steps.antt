@@ -1,9 +1,8 @@
 -- An event, taken or refused, keeps the tie and draws the same answer from journal and chip.
-use Rattle.std.proofs.Common.{◌≡◌, ℕ, Bool, true, false, cond, not, List, Some, None, Ok, Err, Option, Result, sym, refl, ap, ◌∙◌, subst}
+use Rattle.std.proofs.Common.{◌≡◌, ℕ, Bool, true, false, List, Some, None, Ok, Err, Option, Result, sym, refl, ap, ◌∙◌, subst}
 use Rattle.backing.specs.declared.refusal.Refusal.{Refusal}
 use Rattle.backing.specs.declared.refusal.Refusal.TheVariants.{NoCycle}
 use Rattle.rules.specs.declared.state.Level.{Level}
-use Rattle.rules.specs.declared.state.Level.TheVariants.{Float}
 use Rattle.rules.specs.declared.state.Event.{Event}
 use Rattle.rules.specs.declared.state.Event.TheVariants.{Select, Clock, Data, Protect, Hold, CycleEnd, Power}
 use Rattle.rules.specs.declared.state.Cycle.{Cycle}

@@ -1,4 +1,6 @@
 // The laws over whole runs, each as a contract.
+#![tactic(auto)]
+
 ghost use Rattle.laws.specs.Bench.{BenchCases, Rests};
 ghost use Rattle.laws.specs.Entries.{TableEntries};
 ghost use Rattle.laws.specs.Laws.{AnswersStand, CapturesStand, CopiesStand, CellsStand, UnfitStand, RefusedEventStands, RefusedCaptureStands, SamenessStands};

@@ -1,4 +1,6 @@
 // The text that lists the parts of a capture.
+#![tactic(auto)]
+
 ghost use Rattle.std.specs.Prelude.{◌≡◌, ◌+◌, ◌/◌, ◌≤◌, min, ◌++◌, length, is_ok, IfOk, if◌then◌else◌};
 ghost use Rattle.stretch.specs.Reads.{shown, shown_as};
 ghost use Rattle.text.specs.Text.{overlaid};

@@ -1,8 +1,8 @@
 -- The rules: what an event makes of what a chip shows.
-use Rattle.std.specs.Prelude.{ℕ, zero, suc, ◌+◌, ◌-◌, ◌*◌, ◌/◌, ◌%◌, ◌^◌, Bool, true, false, not, ◌&&◌, List, [], ◌∷◌, length, take, replicate, Some, None, Ok, Err, Option, Result, ◌==◌, nat_lt, slice_index, slice_index_or, slice_set}
+use Rattle.std.specs.Prelude.{ℕ, zero, suc, ◌+◌, ◌-◌, ◌*◌, ◌%◌, Bool, true, false, not, ◌&&◌, List, [], ◌∷◌, take, replicate, Some, None, Ok, Err, Option, Result, ◌==◌, nat_lt, slice_index, slice_index_or, slice_set}
 use Rattle.backing.specs.declared.refusal.Refusal.{Refusal}
 use Rattle.rules.specs.declared.state.Level.{Level}
-use Rattle.rules.specs.declared.state.Level.TheVariants.{Low, High, Float}
+use Rattle.rules.specs.declared.state.Level.TheVariants.{Float}
 use Rattle.rules.specs.declared.state.Event.{Event}
 use Rattle.rules.specs.declared.state.Event.TheVariants.{Select, Clock, Data, Protect, Hold, CycleEnd, Power}
 use Rattle.rules.specs.declared.state.Instruction.{Instruction}

@@ -1,3 +1,5 @@
+#![tactic(auto)]
+
 pub mod close;
 pub mod decode;
 pub mod ident;

@@ -1,8 +1,7 @@
 -- The parts of a capture, first part by first part, and the laws that they keep.
 use Rattle.std.proofs.Common.{◌≡◌, ℕ, zero, suc, ◌+◌, ◌/◌, ◌<◌, ◌≤◌, List, [], ◌∷◌, ◌++◌, length, take, drop, sym, refl, ap, ◌∙◌, subst, arith}
-use Rattle.std.specs.List.{flat_map}
 use Rattle.std.proofs.lemmas.List.{length-take-le, length-drop, take-append-drop, drop-drop}
-use Rattle.stretch.specs.Parts.{Kind, Part, front, parts_in, parts_from, parts}
+use Rattle.stretch.specs.Parts.{Part, front, parts_in, parts_from}
 use Rattle.stretch.specs.Laws.{Cut, Ordered, Numbered, MayFollow}
 use Rattle.stretch.specs.Reads.{shown_as, bytes_of}
 use Rattle.stretch.specs.declared.part.Stretch.{Stretch}

@@ -1,5 +1,5 @@
 -- The first part of what is left: which it is, and what may follow it.
-use Rattle.std.proofs.Common.{◌≡◌, ℕ, zero, suc, ◌+◌, ◌<◌, ◌≤◌, Bool, true, false, cond, ltb, List, [], ◌∷◌, length, get_or, take, drop, sym, refl, ap, ◌∙◌, subst, arith, ltb-false, ltb-true, le-ltb, lt-ltb}
+use Rattle.std.proofs.Common.{◌≡◌, ℕ, ◌+◌, ◌<◌, ◌≤◌, Bool, true, false, cond, ltb, List, length, get_or, take, drop, sym, refl, ap, ◌∙◌, subst, arith, ltb-false, ltb-true, le-ltb, lt-ltb}
 use Rattle.std.proofs.lemmas.List.{length-take-le, length-drop, get_or-take, take_all}
 use Rattle.stretch.specs.Parts.{Kind, Part, quiet, selected, opened, lone, moves, ahead, front}
 use Rattle.stretch.specs.Laws.{At, Lacks, Formed, MayFollow}

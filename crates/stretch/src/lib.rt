@@ -1,4 +1,6 @@
 // The reader that cuts a capture into its stretches.
+#![tactic(auto)]
+
 pub mod part;
 pub mod reader;
 mod scan;

@@ -1,4 +1,6 @@
 // Lists the parts of the capture on standard input.
+#![tactic(auto)]
+
 use listing::listing;
 use std::io::{Read, Write};
 

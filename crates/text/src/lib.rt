@@ -1,4 +1,6 @@
 // Text laid into a buffer of the caller's: byte strings and decimal numbers, cut off at the buffer's end.
+#![tactic(auto)]
+
 ghost use Rattle.std.specs.Prelude.{◌≡◌, ◌<◌, ◌≤◌, length, drop, decimal};
 ghost use Rattle.text.specs.Text.{overlaid, laid, fitted, DigitRule};
 

@@ -12,8 +12,8 @@ returns-then-input-gt-MOST c =
     let t = laid_same c.args.out.now c.tell.new.out c.tell.result _ _ same w.buffer w.wrote in
     record { buffer = t.buffer; wrote = t.wrote }
 
-pub slice-bounds-answers-end : goal.slice-bounds-answers-end
-slice-bounds-answers-end c =
+pub slice_bounds-answers-end : goal.slice_bounds-answers-end
+slice_bounds-answers-end c =
     let n = levels_taken c.args.input.now c.run-says.result c.taken.result c.run-says.ensures.says c.taken.ensures in
     let room = room_taken c.args.input.now c.taken.result n c.if-input-gt-MOST.false in
     omega arith

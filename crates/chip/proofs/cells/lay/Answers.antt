@@ -1,4 +1,4 @@
-use Rattle.std.proofs.Common.{◌≡◌, ℕ, ◌+◌, ◌<◌, length, take, set, sym, refl, ap, ◌∙◌, arith}
+use Rattle.std.proofs.Common.{◌≡◌, ◌+◌, length, take, set, sym, refl, ap, ◌∙◌, arith}
 use Rattle.chip.proofs.Laying.{laid_nil, laid_some, laid_none, length_laid}
 use Rattle.chip.proofs.cells.lay.Goals as goal
 use Rattle.chip.proofs.cells.lay.Goals.{in-Some+in_ok-put, in_default}

@@ -1,8 +1,7 @@
-use Rattle.std.proofs.Common.{◌≡◌, ◌≤◌, length, get_or, Ok, Err, Result, sym, ap, ◌∙◌, arith}
+use Rattle.std.proofs.Common.{◌≤◌, length, Err, sym, ap, ◌∙◌, arith}
 use mathlib.Core.Bool.{false≢true}
-use Rattle.rules.specs.Shape.{cell_count, status_at, lock_at}
-use Rattle.chip.specs.Shows.{cells_of}
-use Rattle.chip.specs.Answers.{checked, unlawful}
+use Rattle.rules.specs.Shape.{cell_count}
+use Rattle.chip.specs.Answers.{checked}
 use Rattle.chip.proofs.Rows.{short_row, judged_row}
 use Rattle.chip.proofs.cells.making.Goals as goal
 

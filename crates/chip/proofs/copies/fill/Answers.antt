@@ -1,4 +1,4 @@
-use Rattle.std.proofs.Common.{◌≡◌, ℕ, ◌+◌, length, get_or, refl, arith}
+use Rattle.std.proofs.Common.{◌≡◌, ◌+◌, get_or, refl, arith}
 use Rattle.chip.specs.Shows.{cells_of}
 use Rattle.chip.proofs.Filling.{filled_more, filled_all, long_cells}
 use Rattle.chip.proofs.copies.fill.Goals as goal

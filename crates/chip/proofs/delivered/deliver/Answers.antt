@@ -1,4 +1,4 @@
-use Rattle.std.proofs.Common.{◌≡◌, ◌+◌, set, sym, refl, ap, ◌∙◌, arith}
+use Rattle.std.proofs.Common.{◌≡◌, ◌+◌, set, refl, ap, ◌∙◌, arith}
 use Rattle.chip.proofs.Deliveries.{part_way, part_way_more}
 use Rattle.chip.proofs.delivered.deliver.Goals as goal
 

@@ -7,5 +7,5 @@ returns c =
     record {
       buffer = search rules;
       wrote = search rules;
-      short = told_short c.args.report.now c.capture_line.ensures.short c.capture-line-2.ensures.short;
+      short = told_short c.args.report.now c.capture_line.ensures.short c.capture_line-2.ensures.short;
     }

@@ -1,4 +1,3 @@
-use Rattle.chip.specs.Shows.{view_of}
 use Rattle.chip.proofs.Told.{event_law}
 use Rattle.chip.proofs.unit.Chip.event.Goals as goal
 

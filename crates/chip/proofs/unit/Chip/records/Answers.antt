@@ -1,4 +1,4 @@
-use Rattle.std.proofs.Common.{◌≡◌, ◌+◌, ◌*◌, ◌/◌, length, get_or, Ok, Result, sym, refl, ap, ◌∙◌, arith}
+use Rattle.std.proofs.Common.{◌≡◌, ◌+◌, ◌*◌, ◌/◌, length, get_or, Ok, sym, refl, ap, ◌∙◌, arith}
 use Rattle.rules.specs.Rules.{step}
 use Rattle.chip.specs.Shows.{view_of}
 use Rattle.chip.proofs.Capturing.{midway_none, midway_more, ended_refused, ended_all, kept_same, kept_on}

@@ -1,6 +1,4 @@
-use Rattle.std.proofs.Common.{◌≡◌, Err, Result, sym, refl, ap, ◌∙◌, rules}
-use Rattle.backing.specs.declared.fault.Fault.{Fault}
-use Rattle.rules.specs.declared.state.Level.{Level}
+use Rattle.std.proofs.Common.{◌≡◌, Err, sym, refl, ap, ◌∙◌, rules}
 use Rattle.rules.specs.Rules.{taken, step, after}
 use Rattle.chip.specs.Shows.{view_of}
 use Rattle.chip.proofs.Steps.{step_taken, step_refused, answer_taken}
