@@ -128,9 +128,9 @@ abbrev refusal_or : Refusal → Result Level Refusal → Refusal
 refusal_or r (Ok x) = r
 refusal_or r (Err s) = s
 
-abbrev is_level : Result Level Refusal → Type 0
-is_level (Ok q) = Unit {0}
-is_level (Err r) = ⊥
+abbrev IsLevel : Result Level Refusal → Type 0
+IsLevel (Ok q) = Unit {0}
+IsLevel (Err r) = ⊥
 
 records_told : (p : Shape) → Lawful p → (birth bytes : List ℕ) (i : ℕ) (j : Journal) (v : View) → Stands p birth j v → Told (records p v i bytes) (journal_tells p birth j i bytes)
 records_told p lw birth [] i j v s = (refl, refl)
@@ -145,8 +145,8 @@ records_told p lw birth (k ∷ l ∷ more) i j v s =
     by (taken u) (note.took x) e t go =
         let rest = go u x t in
         (ap (λ q. q ∷ (records p u (i + 1) more).levels) (ap (level_or (note.q_of x)) e) ∙ ap (λ qs. note.q_of x ∷ qs) rest.0, rest.1)
-    by (taken u) (note.turned r) e t go = absurd (subst is_level e tt)
-    by (refused r) (note.took x) e t go = absurd (subst is_level (sym e) tt)
+    by (taken u) (note.turned r) e t go = absurd (subst IsLevel e tt)
+    by (refused r) (note.took x) e t go = absurd (subst IsLevel (sym e) tt)
     by (refused r) (note.turned q) e t go = (refl, ap (λ x. Err (raised x i)) (ap (refusal_or r) e))
 
 told_by : (p : Shape) → Lawful p → (birth : List ℕ) (j : Journal) (v : View) (bytes : List ℕ) (o o' : Option Refusal) → (o ≡ None → Stands p birth j v) →
@@ -172,16 +172,16 @@ unfit_stand p birth r e h x =
 
 -- ---- refused calls
 
-abbrev is_err : Result ℕ Fault → Type 0
-is_err (Ok n) = ⊥
-is_err (Err e) = Unit {0}
+abbrev IsErr : Result ℕ Fault → Type 0
+IsErr (Ok n) = ⊥
+IsErr (Err e) = Unit {0}
 
 pub refused_event_stands : RefusedEventStands
 refused_event_stands p v k l e says = by (unfit p v.cells) (step p v k l) says
   where
     by : (o : Option Refusal) (d : Done) → (call.unless o v (call.one_event v d)).says ≡ Err e → (call.unless o v (call.one_event v d)).view ≡ v
     by (Some r) d q = refl
-    by None (taken u) q = absurd (subst is_err (sym q) tt)
+    by None (taken u) q = absurd (subst IsErr (sym q) tt)
     by None (refused r) q = refl
 
 -- ---- sameness
@@ -204,9 +204,9 @@ cells_bytes p birth bs j v s = by s.tie s.sound
           | inr h ↦ subst (λ x. x < 256) (sym (get_or_past cells i 0 (subst (λ n. n ≤ i) (sym m.len_is) h))) (lit< tt)
         ]
 
-abbrev is_none : Option Refusal → Type 0
-is_none None = Unit {0}
-is_none (Some r) = ⊥
+abbrev IsNone : Option Refusal → Type 0
+IsNone None = Unit {0}
+IsNone (Some r) = ⊥
 
 -- a chip that is fit was born fit
 birth_fit : (p : Shape) (birth : List ℕ) (h : List Call) → unfit p (chip_after p birth h).cells ≡ None → unfit p (take (cell_count p) birth) ≡ None
@@ -214,7 +214,7 @@ birth_fit p birth h f = by (unfit p (take (cell_count p) birth)) refl
   where
     by : (o : Option Refusal) → unfit p (take (cell_count p) birth) ≡ o → unfit p (take (cell_count p) birth) ≡ None
     by None e = e
-    by (Some r) e = absurd (subst is_none (sym f ∙ ap (λ v. unfit p v.cells) (unfit_history p r (born p birth) e h) ∙ e) tt)
+    by (Some r) e = absurd (subst IsNone (sym f ∙ ap (λ v. unfit p v.cells) (unfit_history p r (born p birth) e h) ∙ e) tt)
 
 -- what agrees is one view
 one_view : {p : Shape} {birth birth' : List ℕ} {j j' : Journal} {u v : View} → Tracks p birth j u → Tracks p birth' j' v → AtRest u → AtRest v → u.shift ≡ v.shift → Agree p birth birth' j j' → u ≡ v
@@ -283,8 +283,8 @@ fault_or d (Ok n) = d
 fault_or d (Err e) = e
 
 stops : (p : Shape) (bytes : List ℕ) (v : View) (i : ℕ) (e : Fault) → (records p v i bytes).says ≡ Err e → Stops p v i bytes e
-stops p [] v i e q = absurd (subst is_err (sym q) tt)
-stops p (k ∷ []) v i e q = absurd (subst is_err (sym q) tt)
+stops p [] v i e q = absurd (subst IsErr (sym q) tt)
+stops p (k ∷ []) v i e q = absurd (subst IsErr (sym q) tt)
 stops p (k ∷ l ∷ more) v i e q = by (step p v k l) refl q (λ u z. stops p more u (i + 1) e z)
   where
     by : (d : Done) → step p v k l ≡ d → (follow p v i d more).says ≡ Err e → ((u : View) → (records p u (i + 1) more).says ≡ Err e → Stops p u (i + 1) more e) → Stops p v i (k ∷ l ∷ more) e
@@ -360,7 +360,7 @@ refused_capture_stands p v bytes room e says = by (unfit p v.cells) refl (refuse
         record {
           view = ap (λ o. (call.unless o v (call.unless (refused_capture bytes room) v (records p v 0 bytes))).view) f ∙ sym (ap (λ o. (cut_at p v bytes e.«record» o).view) f);
           levels = ap (λ o. (call.unless o v (call.unless (refused_capture bytes room) v (records p v 0 bytes))).levels) f ∙ sym (ap (λ o. (cut_at p v bytes e.«record» o).levels) f);
-          at = λ n _. absurd (subst is_none (sym n ∙ f) tt);
+          at = λ n _. absurd (subst IsNone (sym n ∙ f) tt);
         }
     by None f (Some r) g q =
         let whole : outcome p v (capture bytes room) ≡ record { view = v; levels = []; says = Err (raised r 0) } =
@@ -370,7 +370,7 @@ refused_capture_stands p v bytes room e says = by (unfit p v.cells) refl (refuse
         record {
           view = ap (λ x. x.view) whole ∙ sym (ap (λ x. x.view) part);
           levels = ap (λ x. x.levels) whole ∙ sym (ap (λ x. x.levels) part);
-          at = λ _ n. absurd (subst is_none (sym n ∙ g) tt);
+          at = λ _ n. absurd (subst IsNone (sym n ∙ g) tt);
         }
     by None f None g q =
         let c = stops p bytes v 0 e q in

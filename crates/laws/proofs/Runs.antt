@@ -68,9 +68,9 @@ birth_stands p birth f =
 
 -- ---- an event
 
-abbrev is_ok : Result Level Refusal → Type 0
-is_ok (Ok q) = Unit {0}
-is_ok (Err r) = ⊥
+abbrev IsOk : Result Level Refusal → Type 0
+IsOk (Ok q) = Unit {0}
+IsOk (Err r) = ⊥
 
 module _ (p : Shape) (law : Lawful p) (birth : List ℕ) where
   noted_sound : (j : Journal) (r : Result Event Refusal) → SoundList p j.entries → SoundList p (note.after_noting j (note.notes_event p birth j r)).entries
@@ -101,8 +101,8 @@ module _ (p : Shape) (law : Lawful p) (birth : List ℕ) where
           Stands p birth (elim n as (λ _. Journal) [ took x ↦ journal_records p birth x more | turned r ↦ j ])
           (elim d as (λ _. Outcome) [ taken u ↦ call.with_level (seen u.shift) (records p u (i + 1) more) | refused r ↦ record { view = v; levels = []; says = Err (raised r i) } ]).view
       by (taken u) (took x) t e go = go x u t
-      by (taken u) (turned r) t e go = absurd (subst is_ok e tt)
-      by (refused r) (took x) t e go = absurd (subst is_ok (sym e) tt)
+      by (taken u) (turned r) t e go = absurd (subst IsOk e tt)
+      by (refused r) (took x) t e go = absurd (subst IsOk (sym e) tt)
       by (refused r) (turned q) t e go = t
 
   -- ---- a call on a fit chip

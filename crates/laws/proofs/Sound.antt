@@ -43,12 +43,12 @@ byte_by p P k birth g (power_cycle ∷ es) s i b = byte_by p P k birth g es s.1 
 byte_by p P k birth g (wrote place bytes ∷ es) s i true = or_by (P i) (put_at place bytes i) (byte_of birth i true es) (λ y e. k i y (s.0 i y e)) (byte_by p P k birth g es s.1 i true)
 byte_by p P k birth g (wrote place bytes ∷ es) s i false = byte_by p P k birth g es s.1 i false
 
-abbrev is_some : Option ℕ → Type 0
-is_some None = ⊥
-is_some (Some n) = Unit {0}
+abbrev IsSome : Option ℕ → Type 0
+IsSome None = ⊥
+IsSome (Some n) = Unit {0}
 
 none_some : (y : ℕ) → None ≡ Some y → ⊥
-none_some y e = subst is_some (sym e) tt
+none_some y e = subst IsSome (sym e) tt
 
 abbrev value : Option ℕ → ℕ
 value None = 0

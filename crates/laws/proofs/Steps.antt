@@ -17,12 +17,12 @@ use Rattle.laws.specs.Journal.{Journal, Noted, Entry, cycle_runs, enabled, notin
 use Rattle.laws.proofs.Keeps.{Mem, Fits, resting, young, old, Tracks, tracks, jr, vw}
 use Rattle.laws.proofs.Moves.{off_is, data_keeps, protect_keeps, hold_keeps, select_keeps, power_keeps, rise_keeps, fall_keeps, deselect_keeps, end_keeps}
 
-abbrev is_none : Option Refusal → Type 0
-is_none None = Unit {0}
-is_none (Some r) = ⊥
+abbrev IsNone : Option Refusal → Type 0
+IsNone None = Unit {0}
+IsNone (Some r) = ⊥
 
 no_some : (r : Refusal) → Some r ≡ None → ⊥
-no_some r e = subst is_none (sym e) tt
+no_some r e = subst IsNone (sym e) tt
 
 module _ (p : Shape) (law : Lawful p) (birth : List ℕ) (es : List Entry) (cy : Cycle) (cells : List ℕ) (m : Mem p birth es cy cells) where
   abbrev J : (s c d w h held : Bool) → List Bool → Noted → Level → ℕ → Journal

@@ -340,11 +340,11 @@ fitting a b c =
           ]
     ]
 
-abbrev is_none : Option Refusal → Type 0
-is_none None = Unit {0}
-is_none (Some r) = ⊥
+abbrev IsNone : Option Refusal → Type 0
+IsNone None = Unit {0}
+IsNone (Some r) = ⊥
 
-fit_parts : (a b c : Bool) → is_none (fitting a b c) → (a ≡ false) × (b ≡ true) × (c ≡ false)
+fit_parts : (a b c : Bool) → IsNone (fitting a b c) → (a ≡ false) × (b ≡ true) × (c ≡ false)
 fit_parts true b c e = absurd e
 fit_parts false false c e = absurd e
 fit_parts false true true e = absurd e
@@ -354,7 +354,7 @@ module _ (p : Shape) (cells : List ℕ) (fit : unfit p cells ≡ None) where
   all_parts : (ltb (length cells) (cell_count p) ≡ false) × (eqb (kept (get_or cells (status_at p) 0)) (get_or cells (status_at p) 0) ≡ true) × (ltb 1 (get_or cells (lock_at p) 0) ≡ false)
   all_parts =
       fit_parts (ltb (length cells) (cell_count p)) (eqb (kept (get_or cells (status_at p) 0)) (get_or cells (status_at p) 0)) (ltb 1 (get_or cells (lock_at p) 0))
-      (subst is_none (sym fit) tt)
+      (subst IsNone (sym fit) tt)
 
   pub fit_length : cell_count p ≤ length cells
   fit_length = ltb-false (length cells) (cell_count p) all_parts.0
