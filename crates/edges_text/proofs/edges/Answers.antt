@@ -8,7 +8,7 @@ use Rattle.edges_text.proofs.edges.Goals as goal
 pub returns-then-input-gt-MOST : goal.returns-then-input-gt-MOST
 returns-then-input-gt-MOST c =
     let w = c.tell.ensures in
-    let same = ap (λ (e : Fault). lines [] (Err e)) c.of.ensures ∙ long_text c.args.input.now c.if-input-gt-MOST.true in
+    let same = ap (λ (e : Fault). lines [] (Err e)) c.of.ensures ∙ long_text c.args.input.now (omega arith) in
     let t = laid_same c.args.out.now c.tell.new.out c.tell.result _ _ same w.buffer w.wrote in
     record { buffer = t.buffer; wrote = t.wrote }
 
