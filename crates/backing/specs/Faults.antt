@@ -57,6 +57,10 @@ raiser LongInput = Program
 abbrev pub raised : Refusal → ℕ → Fault
 raised cause at = record { refusal = cause; «record» = at; layer = raiser cause }
 
+-- the same fault at another record
+abbrev pub moved_to : Fault → ℕ → Fault
+moved_to e at = record { refusal = e.refusal; «record» = at; layer = e.layer }
+
 -- a fault by its three numbers: refusal, layer, record
 abbrev pub Shows : ℕ → ℕ → ℕ → Fault → Type 0
 Shows n layer at e = (number e.refusal ≡ n) × (position e.layer ≡ layer) × (e.«record» ≡ at)

@@ -34,7 +34,7 @@ fn byte_at(bytes: &[u8], place: usize) -> Result<u8, Fault>
     if place < PLACES && place < bytes.len() {
         Ok(bytes[place])
     } else {
-        Err(Fault::of(Refusal::PastRow))
+        Err(Fault::from(Refusal::PastRow))
     }
 }
 
@@ -60,7 +60,7 @@ impl Backing for Image<'_> {
             self.bytes[place] = byte;
             Ok(())
         } else {
-            Err(Fault::of(Refusal::PastRow))
+            Err(Fault::from(Refusal::PastRow))
         }
     }
 }

@@ -1,4 +1,4 @@
-// The six layers that raise faults.
+// The six layers that raise faults, by their numbers.
 ghost use Rattle.std.specs.Prelude.{◌≡◌};
 ghost use Rattle.backing.specs.Faults.{position, OnlyLayer};
 
@@ -12,11 +12,10 @@ pub enum Layer {
     Program = 6,
 }
 
-impl Layer {
-    pub fn number(self) -> u8
-        ensures value { result ≡ position self }
-        ensures only { OnlyLayer self result }
-    {
-        self as u8
+impl From<Layer> for u8 {
+    ghost from_gives = { λ layer n. (n ≡ position layer) × OnlyLayer layer n };
+
+    fn from(layer: Layer) -> u8 {
+        layer as u8
     }
 }

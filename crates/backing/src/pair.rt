@@ -42,7 +42,7 @@ impl<A: Backing, B: Backing> Backing for Pair<A, B> {
 
     fn get(&self, place: usize) -> Result<u8, Fault> {
         if place >= PLACES {
-            return Err(Fault::of(Refusal::PastRow));
+            return Err(Fault::from(Refusal::PastRow));
         }
         let n = self.a.len();
         if place < n {
@@ -54,7 +54,7 @@ impl<A: Backing, B: Backing> Backing for Pair<A, B> {
 
     fn put(&mut self, place: usize, byte: u8) -> Result<(), Fault> {
         if place >= PLACES {
-            return Err(Fault::of(Refusal::PastRow));
+            return Err(Fault::from(Refusal::PastRow));
         }
         let n = self.a.len();
         if place < n {

@@ -1,4 +1,4 @@
-// The sixteen refusals.
+// The sixteen refusals, by their numbers.
 ghost use Rattle.std.specs.Prelude.{◌≡◌};
 ghost use Rattle.backing.specs.Faults.{number, raiser, Only};
 
@@ -24,14 +24,15 @@ pub enum Refusal {
     LongInput = 16,
 }
 
-impl Refusal {
-    pub fn number(self) -> u8
-        ensures value { result ≡ number self }
-        ensures only { Only self result }
-    {
-        self as u8
-    }
+impl From<Refusal> for u8 {
+    ghost from_gives = { λ refusal n. (n ≡ number refusal) × Only refusal n };
 
+    fn from(refusal: Refusal) -> u8 {
+        refusal as u8
+    }
+}
+
+impl Refusal {
     // The layer whose row has this refusal.
     pub fn layer(self) -> Layer
         ensures { result ≡ raiser self }

@@ -10,4 +10,4 @@ returns-then-place-bytes c = (
 
 pub returns-else-place-lt-PLACES : goal.returns-else-place-lt-PLACES
 returns-else-place-lt-PLACES c =
-    (omega (arith, length_imaged c.args.bytes.now), past_shows c.of.result c.of.ensures)
+    (omega (arith, length_imaged c.args.bytes.now), past_shows c.from.result c.from.ensures)

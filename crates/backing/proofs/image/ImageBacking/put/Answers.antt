@@ -16,7 +16,7 @@ returns-then-place-self c =
 pub returns-else-place-lt-PLACES : goal.returns-else-place-lt-PLACES
 returns-else-place-lt-PLACES c =
     record {
-      row = (omega (arith, length_imaged c.args.self.now.bytes.now), past_shows c.of.result c.of.ensures, refl);
+      row = (omega (arith, length_imaged c.args.self.now.bytes.now), past_shows c.from.result c.from.ensures, refl);
       past = refl;
       held = refl;
     }

@@ -6,7 +6,7 @@ use Rattle.backing.proofs.pair.PairBacking.put.Goals as goal
 pub returns-then-place-ge-PLACES : goal.returns-then-place-ge-PLACES
 returns-then-place-ge-PLACES g c =
     record {
-      row = (past_paired (g.A.Backing.row c.args.self.now.a) (g.B.Backing.row c.args.self.now.b) _ c.if-place-ge-PLACES.true, past_shows c.of.result c.of.ensures, refl);
+      row = (past_paired (g.A.Backing.row c.args.self.now.a) (g.B.Backing.row c.args.self.now.b) _ c.if-place-ge-PLACES.true, past_shows c.from.result c.from.ensures, refl);
       past = refl;
       held = refl;
     }
