@@ -3,3 +3,4 @@ pub mod Tables
 pub mod Rules
 pub mod Calls
 pub mod Ident
+pub mod Protection

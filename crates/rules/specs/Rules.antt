@@ -1,5 +1,5 @@
 -- The rules: what an event makes of what a chip shows.
-use Rattle.std.specs.Prelude.{ℕ, zero, suc, ◌+◌, ◌-◌, ◌*◌, ◌%◌, Bool, true, false, not, ◌&&◌, List, [], ◌∷◌, take, replicate, Some, None, Ok, Err, Option, Result, ◌==◌, nat_lt, slice_index, slice_index_or, slice_set}
+use Rattle.std.specs.Prelude.{ℕ, zero, suc, ◌+◌, ◌-◌, ◌*◌, ◌%◌, Bool, true, false, not, ◌&&◌, List, [], ◌∷◌, take, replicate, Some, None, Ok, Err, Option, Result, is_some, ◌==◌, nat_lt, slice_index, slice_index_or, slice_set}
 use Rattle.backing.specs.declared.refusal.Refusal.{Refusal}
 use Rattle.rules.specs.declared.state.Level.{Level}
 use Rattle.rules.specs.declared.state.Level.TheVariants.{Float}
@@ -19,8 +19,6 @@ use Rattle.rules.specs.declared.state.Page.{Page}
 use Rattle.rules.specs.declared.state.Pending.{Pending}
 use Rattle.rules.specs.declared.state.Pins.{Pins}
 use Rattle.rules.specs.declared.state.Shift.{Shift}
-use Rattle.rules.specs.declared.state.Cycle.{Cycle}
-use Rattle.rules.specs.declared.state.Cycle.TheVariants.{Idle, Busy}
 use Rattle.rules.specs.declared.state.Phase.{Phase}
 use Rattle.rules.specs.declared.state.Phase.TheVariants.{Deselected, Instruction as Instructing, Ignored, Enable, Disable, Status, Address, Output, Input}
 use Rattle.rules.specs.Shape.{Shape, array_len, ident_at, unique_at, status_at, lock_at, cell_count}
@@ -30,14 +28,14 @@ use Rattle.rules.specs.Tables.{to_number, decoded, refused_event, kept, named, a
 pub record View : Type 0 where
   pub pins : Pins
   pub wel : Bool
-  pub cycle : Cycle
+  pub cycle : Option Pending
   pub stretch : Phase
   pub shift : Shift
   pub cells : List ℕ
 
-abbrev pub running : Cycle → Bool
-running Idle = false
-running (Busy w) = true
+-- a cycle runs while its write waits for its end
+abbrev pub running : Option Pending → Bool
+running cycle = is_some cycle
 
 -- S is high
 abbrev pub is_off : Phase → Bool
@@ -208,7 +206,7 @@ pending g = record { target = g.target; start = g.start; bytes = put_bytes g.tar
 abbrev pub at_rest : Shift
 at_rest = record { held = false; shown = Float; sample = 0 }
 
-abbrev pub deselected : View → Bool → Cycle → View
+abbrev pub deselected : View → Bool → Option Pending → View
 deselected v wel cycle = record { pins = v.pins; wel = wel; cycle = cycle; stretch = Deselected; shift = at_rest; cells = v.cells }
 
 -- a rise of S that is not held
@@ -223,7 +221,7 @@ closed p v (Address a was n b) = deselected v v.wel v.cycle
 closed p v (Output r a k) = deselected v v.wel v.cycle
 closed p v (Input g) =
     elim (counts p v.pins.protect (slice_index v.cells (status_at p)) (slice_index v.cells (lock_at p)) g)
-    [ true ↦ deselected v v.wel (Busy (pending g)) | false ↦ deselected v v.wel v.cycle ]
+    [ true ↦ deselected v v.wel (Some (pending g)) | false ↦ deselected v v.wel v.cycle ]
 
 -- ---- events
 
@@ -301,13 +299,13 @@ laid [] (suc n) bytes = []
 laid (x ∷ xs) (suc n) bytes = x ∷ laid xs n bytes
 
 -- the cycle ends: its write is put, WEL is cleared
-abbrev pub ended : Shape → View → Cycle → View
-ended p v Idle = v
-ended p v (Busy w) =
+abbrev pub ended : Shape → View → Option Pending → View
+ended p v None = v
+ended p v (Some w) =
     record {
       pins = v.pins;
       wel = false;
-      cycle = Idle;
+      cycle = None;
       stretch = v.stretch;
       shift = v.shift;
       cells = laid v.cells (base p w.target w.start) (take (reach p w.target) w.bytes);
@@ -367,7 +365,7 @@ born p row =
     record {
       pins = record { clock = false; input = false; protect = true; hold = true };
       wel = false;
-      cycle = Idle;
+      cycle = None;
       stretch = Deselected;
       shift = at_rest;
       cells = take (cell_count p) row;

@@ -58,6 +58,11 @@ decoded k l =
           ]
     ]
 
+-- a check's answer: the refusal, where there is one
+abbrev pub spared : Option Refusal → Result (Unit {0}) Refusal
+spared None = Ok tt
+spared (Some r) = Err r
+
 -- a pin that is to go where it is
 abbrev pub there : Bool → Bool → Option Refusal
 there level l = elim (beq level l) [ true ↦ Some PinAlreadyThere | false ↦ None ]

@@ -3,25 +3,41 @@ ghost use Rattle.std.specs.Prelude.{◌≡◌};
 ghost use Rattle.rules.specs.Shape.{Shape, array_len};
 ghost use Rattle.rules.specs.Tables.{bp, fence, page_open, page_of, status_open, ident_open, locks};
 ghost use Rattle.rules.specs.Rules.{counts};
+ghost use Rattle.rules.specs.Protection.{field};
 
 use super::state::{Got, Page, Target};
 
-// BP1 BP0 of the status cell.
-pub(crate) fn protection(status: u8) -> u8
-    ensures { result ≡ bp status }
-{
-    status / 4 % 4
+// The part of the array that BP1 BP0 of a status cell protect, from its end on.
+#[derive(Clone, Copy, PartialEq)]
+pub(crate) enum Protected {
+    Nothing,
+    Quarter,
+    Half,
+    Whole,
+}
+
+impl From<u8> for Protected {
+    ghost from_gives = { λ status part. field part ≡ bp status };
+
+    fn from(status: u8) -> Protected {
+        match status / 4 % 4 {
+            0 => Protected::Nothing,
+            1 => Protected::Quarter,
+            2 => Protected::Half,
+            _ => Protected::Whole,
+        }
+    }
 }
 
 // The first protected place of an array of this length.
 pub fn protected_from(array: usize, status: u8) -> usize
     ensures { (p : Shape) → array ≡ array_len p → result ≡ fence p status }
 {
-    match protection(status) {
-        0 => array,
-        1 => array - array / 4,
-        2 => array / 2,
-        _ => 0,
+    match Protected::from(status) {
+        Protected::Nothing => array,
+        Protected::Quarter => array - array / 4,
+        Protected::Half => array / 2,
+        Protected::Whole => 0,
     }
 }
 
@@ -36,14 +52,14 @@ pub(crate) fn opens_status(status: u8, protect: bool) -> bool
 pub(crate) fn opens_ident(status: u8, lock: u8) -> bool
     ensures { result ≡ ident_open status lock }
 {
-    lock == 0 && protection(status) != 3
+    lock == 0 && Protected::from(status) != Protected::Whole
 }
 
 // LID with this data byte.
 pub(crate) fn can_lock(status: u8, byte: u8) -> bool
     ensures { result ≡ locks status byte }
 {
-    byte / 2 % 2 == 1 && protection(status) != 3
+    byte / 2 % 2 == 1 && Protected::from(status) != Protected::Whole
 }
 
 impl Page {

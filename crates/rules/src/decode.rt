@@ -1,55 +1,60 @@
 // Events: from their two bytes, and which are refused.
 ghost use Rattle.std.specs.Prelude.{◌≡◌};
-ghost use Rattle.rules.specs.Tables.{decoded, there, refused_event};
+ghost use Rattle.rules.specs.Tables.{decoded, there, refused_event, spared};
 
 use super::state::{Event, Pins};
 use backing::refusal::Refusal;
 
-pub fn decode(kind: u8, level: u8) -> Result<Event, Refusal>
-    ensures { result ≡ decoded kind level }
-{
-    if kind > 6 {
-        return Err(Refusal::UnknownKind);
-    }
-    if level > 1 || (kind > 4 && level == 1) {
-        return Err(Refusal::BadLevel);
-    }
-    match kind {
-        0 => Ok(Event::Select(level == 1)),
-        1 => Ok(Event::Clock(level == 1)),
-        2 => Ok(Event::Data(level == 1)),
-        3 => Ok(Event::Protect(level == 1)),
-        4 => Ok(Event::Hold(level == 1)),
-        5 => Ok(Event::CycleEnd),
-        _ => Ok(Event::Power),
+// The event of a kind and a level.
+impl TryFrom<(u8, u8)> for Event {
+    type Error = Refusal;
+
+    ghost try_from_gives = { λ bytes answer. answer ≡ decoded bytes.0 bytes.1 };
+
+    fn try_from((kind, level): (u8, u8)) -> Result<Event, Refusal> {
+        if kind > 6 {
+            return Err(Refusal::UnknownKind);
+        }
+        if level > 1 || (kind > 4 && level == 1) {
+            return Err(Refusal::BadLevel);
+        }
+        Ok(match kind {
+            0 => Event::Select(level == 1),
+            1 => Event::Clock(level == 1),
+            2 => Event::Data(level == 1),
+            3 => Event::Protect(level == 1),
+            4 => Event::Hold(level == 1),
+            5 => Event::CycleEnd,
+            _ => Event::Power,
+        })
     }
 }
 
-// A pin that is to go where it is.
-fn stays(level: bool, goes: bool) -> Option<Refusal>
-    ensures { result ≡ there level goes }
+// A pin may not go where it is.
+fn moves(level: bool, goes: bool) -> Result<(), Refusal>
+    ensures { result ≡ spared (there level goes) }
 {
     if level == goes {
-        Some(Refusal::PinAlreadyThere)
+        Err(Refusal::PinAlreadyThere)
     } else {
-        None
+        Ok(())
     }
 }
 
-// `off` is the level of S.
-pub fn refuse(off: bool, pins: Pins, running: bool, event: Event) -> Option<Refusal>
-    ensures { result ≡ refused_event off pins.clock pins.input pins.protect pins.hold running event }
+// Refuses an event that may not come; `off` is the level of S.
+pub fn refuse(off: bool, pins: Pins, running: bool, event: Event) -> Result<(), Refusal>
+    ensures { result ≡ spared (refused_event off pins.clock pins.input pins.protect pins.hold running event) }
 {
     match event {
-        Event::Select(level) => stays(off, level),
-        Event::Clock(level) => stays(pins.clock, level),
-        Event::Data(level) => stays(pins.input, level),
-        Event::Protect(level) => stays(pins.protect, level),
-        Event::Hold(level) => stays(pins.hold, level),
-        Event::CycleEnd if running => None,
-        Event::CycleEnd => Some(Refusal::NoCycle),
-        Event::Power if !off => Some(Refusal::PowerSelected),
-        Event::Power if running => Some(Refusal::PowerInCycle),
-        Event::Power => None,
+        Event::Select(level) => moves(off, level),
+        Event::Clock(level) => moves(pins.clock, level),
+        Event::Data(level) => moves(pins.input, level),
+        Event::Protect(level) => moves(pins.protect, level),
+        Event::Hold(level) => moves(pins.hold, level),
+        Event::CycleEnd if running => Ok(()),
+        Event::CycleEnd => Err(Refusal::NoCycle),
+        Event::Power if !off => Err(Refusal::PowerSelected),
+        Event::Power if running => Err(Refusal::PowerInCycle),
+        Event::Power => Ok(()),
     }
 }

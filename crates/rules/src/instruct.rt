@@ -5,10 +5,10 @@ ghost use Rattle.rules.specs.Rules.{begun, judged};
 
 use super::state::{Access, Instruction, Phase, Target};
 
-impl Instruction {
-    pub(crate) fn named(byte: u8) -> Instruction
-        ensures { result ≡ named byte }
-    {
+impl From<u8> for Instruction {
+    ghost from_gives = { λ byte instruction. instruction ≡ named byte };
+
+    fn from(byte: u8) -> Instruction {
         match byte {
             0x06 => Instruction::Wren,
             0x04 => Instruction::Wrdi,
@@ -55,7 +55,7 @@ fn begin(wel: bool, instruction: Instruction) -> Phase
 pub fn judge(running: bool, wel: bool, byte: u8) -> Phase
     ensures { result ≡ judged (accepted running (named byte)) wel (named byte) }
 {
-    let instruction = Instruction::named(byte);
+    let instruction = Instruction::from(byte);
     if accepts(running, instruction) {
         begin(wel, instruction)
     } else {

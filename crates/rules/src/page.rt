@@ -2,7 +2,7 @@
 ghost use Rattle.std.specs.Prelude.{◌≡◌, ◌≤◌};
 ghost use Rattle.rules.specs.declared.state.Phase.TheVariants.{Input};
 ghost use Rattle.rules.specs.Tables.{kept};
-ghost use Rattle.rules.specs.Rules.{rolled, empty, one_more, filled, head_byte, put_bytes, pending};
+ghost use Rattle.rules.specs.Rules.{rolled, empty, one_more, filled, head_byte, pending};
 
 use super::register::push;
 use super::state::{Got, Page, Pending, Phase, Target};
@@ -30,30 +30,6 @@ impl Got {
             Got::Nothing => Got::One,
             Got::One | Got::More => Got::More,
         }
-    }
-}
-
-// The byte at a page's first place, 0 where it has none.
-pub(crate) fn head(bytes: &[Option<u8>; 256]) -> u8
-    ensures { result ≡ head_byte bytes.now }
-{
-    match bytes[0] {
-        Some(byte) => byte,
-        None => 0,
-    }
-}
-
-// The bytes that a write puts, in place of those that came.
-pub(crate) fn put_bytes(target: Target, bytes: &mut [Option<u8>; 256])
-    ensures { bytes.new ≡ put_bytes target bytes.old }
-{
-    match target {
-        Target::Array | Target::Ident => {}
-        Target::Status => {
-            let byte = head(bytes);
-            bytes[0] = Some(keep(byte));
-        }
-        Target::Lock => bytes[0] = Some(1),
     }
 }
 
@@ -90,17 +66,23 @@ impl Page {
         }
     }
 
+    // The byte at the first place, 0 where it has none.
     pub(crate) fn head(&self) -> u8
         ensures { result ≡ head_byte self.now.bytes }
     {
-        head(&self.bytes)
+        self.bytes[0].unwrap_or(0)
     }
 
+    // The write that waits: its bytes, or what its target puts in place of them.
     pub fn pending(&self) -> Pending
         ensures { result ≡ pending self.now }
     {
         let mut bytes = self.bytes;
-        put_bytes(self.target, &mut bytes);
+        match self.target {
+            Target::Array | Target::Ident => {}
+            Target::Status => bytes[0] = Some(keep(self.head())),
+            Target::Lock => bytes[0] = Some(1),
+        }
         Pending {
             target: self.target,
             start: self.start,

@@ -1,16 +1,8 @@
-// What is asked of a stretch and of a cycle.
+// What is asked of a stretch.
 ghost use Rattle.std.specs.Prelude.{◌≡◌};
-ghost use Rattle.rules.specs.Rules.{running, is_off};
+ghost use Rattle.rules.specs.Rules.{is_off};
 
-use super::state::{Cycle, Phase};
-
-impl Cycle {
-    pub fn runs(&self) -> bool
-        ensures { result ≡ running self.now }
-    {
-        matches!(self, Cycle::Busy(_))
-    }
-}
+use super::state::Phase;
 
 impl Phase {
     // Whether S is high.

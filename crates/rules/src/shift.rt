@@ -6,15 +6,11 @@ ghost use Rattle.rules.specs.Rules.{shift_out, seen};
 use super::page::keep;
 use super::state::{Level, Shift};
 
-impl Level {
-    pub fn number(self) -> u8
-        ensures { result ≡ level_number self }
-    {
-        match self {
-            Level::Low => 0,
-            Level::High => 1,
-            Level::Float => 2,
-        }
+impl From<Level> for u8 {
+    ghost from_gives = { λ level n. n ≡ level_number level };
+
+    fn from(level: Level) -> u8 {
+        level as u8
     }
 }
 
@@ -37,6 +33,13 @@ pub fn status_byte(status: u8, wel: bool, running: bool) -> u8
 }
 
 impl Shift {
+    // The output side while S is high.
+    pub const AT_REST: Shift = Shift {
+        held: false,
+        shown: Level::Float,
+        sample: 0,
+    };
+
     pub fn out(&mut self, held: bool, fresh: u8, k: u8)
         ensures { self.new ≡ shift_out held self.old.sample fresh k }
     {

@@ -1,11 +1,11 @@
 // What a chip holds besides its cells.
 
-// The output Q, or the last bit shifted: none is high impedance.
+// The output Q by its numbers, or the last bit shifted: none is high impedance.
 #[derive(Clone, Copy)]
 pub enum Level {
-    Low,
-    High,
-    Float,
+    Low = 0,
+    High = 1,
+    Float = 2,
 }
 
 // An event that is not malformed; true is high.
@@ -116,14 +116,8 @@ pub struct Pending {
     pub bytes: [Option<u8>; 256],
 }
 
-#[derive(Clone, Copy)]
-pub enum Cycle {
-    Idle,
-    Busy(Pending),
-}
-
 // The levels of C, D, W and HOLD; that of S is in the phase.
-#[derive(Clone, Copy)]
+#[derive(Clone, Copy, PartialEq)]
 pub struct Pins {
     pub clock: bool,
     pub input: bool,
