@@ -1,5 +1,5 @@
 -- The journal keeps what the chip shows.
-use Rattle.std.proofs.Common.{◌≡◌, ℕ, ◌+◌, ◌-◌, ◌%◌, ◌<◌, Bool, true, false, not, ◌&&◌, eqb, ltb, ◌⊎◌, List, [], ◌∷◌, ◌++◌, length, get_or, take, sym, refl, ap, ◌∙◌, inl, inr}
+use Rattle.std.proofs.Common.{◌≡◌, ℕ, ◌+◌, ◌-◌, ◌%◌, ◌<◌, Bool, true, false, not, ◌&&◌, eqb, ltb, ◌⊎◌, List, [], ◌∷◌, ◌++◌, length, get_or, take, sym, refl, ap, ◌∙◌, inl, inr, Option, None, Some}
 use Rattle.std.proofs.lemmas.Bool.{both_ways}
 use Rattle.rules.specs.declared.state.Level.{Level}
 use Rattle.rules.specs.declared.state.Level.TheVariants.{Float}
@@ -10,8 +10,7 @@ use Rattle.rules.specs.declared.state.Access.TheVariants as access
 use Rattle.rules.specs.declared.state.Region.TheVariants as region
 use Rattle.rules.specs.declared.state.Target.TheVariants as target
 use Rattle.rules.specs.declared.state.Shift.{Shift}
-use Rattle.rules.specs.declared.state.Cycle.{Cycle}
-use Rattle.rules.specs.declared.state.Cycle.TheVariants.{Idle, Busy}
+use Rattle.rules.specs.declared.state.Pending.{Pending}
 use Rattle.rules.specs.declared.state.Phase.{Phase}
 use Rattle.rules.specs.declared.state.Phase.TheVariants.{Deselected, Instruction as Instructing, Ignored, Enable, Disable, Status, Address, Output, Input}
 use Rattle.rules.specs.Shape.{Shape, cell_count}
@@ -23,12 +22,12 @@ use Rattle.laws.proofs.Bits.{goes_on}
 use Rattle.laws.proofs.Regions.{status_phase}
 
 -- the cells as they will be once a running cycle has ended
-abbrev pub pend : Shape → Cycle → List ℕ → List ℕ
-pend p Idle cells = cells
-pend p (Busy w) cells = laid cells (base p w.target w.start) (take (reach p w.target) w.bytes)
+abbrev pub pend : Shape → Option Pending → List ℕ → List ℕ
+pend p None cells = cells
+pend p (Some w) cells = laid cells (base p w.target w.start) (take (reach p w.target) w.bytes)
 
 -- the memory: the cycle and the cells are the journal's
-pub record Mem (p : Shape) (birth : List ℕ) (es : List Entry) (cy : Cycle) (cells : List ℕ) : Type 0 where
+pub record Mem (p : Shape) (birth : List ℕ) (es : List Entry) (cy : Option Pending) (cells : List ℕ) : Type 0 where
   pub run_is : running cy ≡ cycle_runs es
   pub len_is : length cells ≡ cell_count p
   pub now_is : (i : ℕ) → i < cell_count p → get_or cells i 0 ≡ byte_of birth i false es
@@ -62,12 +61,12 @@ abbrev pub jr : (s c d w h held : Bool) → List Bool → Noted → Level → �
 jr s c d w h held bits nt last sampled es =
     record { s = s; c = c; d = d; w = w; h = h; held = held; bits = bits; note = nt; last = last; sampled = sampled; entries = es }
 
-abbrev pub vw : (c d w h wel : Bool) → Cycle → Phase → Shift → List ℕ → View
+abbrev pub vw : (c d w h wel : Bool) → Option Pending → Phase → Shift → List ℕ → View
 vw c d w h wel cy ph sh cells =
     record { pins = record { clock = c; input = d; protect = w; hold = h }; wel = wel; cycle = cy; stretch = ph; shift = sh; cells = cells }
 
 pub data Tracks (p : Shape) (birth : List ℕ) : Journal → View → Type 0 where
-  tracks : {s c d w h held : Bool} {bits : List Bool} {nt : Noted} {last : Level} {sampled : ℕ} {es : List Entry} {cy : Cycle} {ph : Phase} {sh : Shift} {cells : List ℕ} →
+  tracks : {s c d w h held : Bool} {bits : List Bool} {nt : Noted} {last : Level} {sampled : ℕ} {es : List Entry} {cy : Option Pending} {ph : Phase} {sh : Shift} {cells : List ℕ} →
       Fits p cells es s c held bits nt last sampled ph sh → Mem p birth es cy cells →
       Tracks p birth (jr s c d w h held bits nt last sampled es) (vw c d w h (enabled es) cy ph sh cells)
 

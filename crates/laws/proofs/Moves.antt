@@ -1,5 +1,5 @@
 -- Each taken event keeps the tie between journal and chip.
-use Rattle.std.proofs.Common.{◌≡◌, ℕ, zero, suc, ◌+◌, ◌-◌, ◌<◌, Bool, true, false, cond, not, ◌&&◌, leb, List, [], ◌∷◌, ◌++◌, length, get_or, take, None, Option, sym, refl, ap, ◌∙◌, subst, inl, inr, append_assoc, append-nil, arith, length-append}
+use Rattle.std.proofs.Common.{◌≡◌, ℕ, zero, suc, ◌+◌, ◌-◌, ◌<◌, Bool, true, false, cond, not, ◌&&◌, leb, List, [], ◌∷◌, ◌++◌, length, get_or, take, None, Option, sym, refl, ap, ◌∙◌, subst, inl, inr, append_assoc, append-nil, arith, length-append, Some}
 use native.Mathlib.Nat.{suc-sub-suc, sub-zero}
 use lib.Dec.{leb-zero, leb-suc-suc, leb-suc-zero}
 use Rattle.std.proofs.lemmas.Bool.{eq-eqb, ne_eqb, lt-ltb, le-ltb, cases_lt, both_ways}
@@ -11,8 +11,7 @@ use Rattle.rules.specs.declared.state.Instruction.{Instruction}
 use Rattle.rules.specs.declared.state.Instruction.TheVariants as name
 use Rattle.rules.specs.declared.state.Shift.{Shift}
 use Rattle.rules.specs.declared.state.Page.{Page}
-use Rattle.rules.specs.declared.state.Cycle.{Cycle}
-use Rattle.rules.specs.declared.state.Cycle.TheVariants.{Idle, Busy}
+use Rattle.rules.specs.declared.state.Pending.{Pending}
 use Rattle.rules.specs.declared.state.Phase.{Phase}
 use Rattle.rules.specs.declared.state.Phase.TheVariants.{Deselected, Instruction as Instructing, Ignored, Enable, Disable, Status, Address, Output, Input}
 use Rattle.rules.specs.Shape.{Shape, Lawful, status_at, lock_at}
@@ -74,7 +73,7 @@ off_is resting = refl
 off_is (young lt) = refl
 off_is {p} (old eight rest a wel sample e8 ok so) = late_off _ (late_old p.ident a wel (named (number eight)) rest)
 
-module _ (p : Shape) (birth : List ℕ) (es : List Entry) (cy : Cycle) (cells : List ℕ) (m : Mem p birth es cy cells) where
+module _ (p : Shape) (birth : List ℕ) (es : List Entry) (cy : Option Pending) (cells : List ℕ) (m : Mem p birth es cy cells) where
   pub data_keeps : (s c d w h held : Bool) (bits : List Bool) (nt : Noted) (last : Level) (sampled : ℕ) (ph : Phase) (sh : Shift) → Fits p cells es s c held bits nt last sampled ph sh → (l : Bool) →
       Tracks p birth (noting p birth (jr s c d w h held bits nt last sampled es) (Data l)) (moved p (vw c d w h (enabled es) cy ph sh cells) (Data l))
   data_keeps s c d w h held bits nt last sampled ph sh f l = tracks f m
@@ -229,7 +228,7 @@ module _ (p : Shape) (birth : List ℕ) (es : List Entry) (cy : Cycle) (cells : 
       record { run_is = m.run_is ∙ sym r; len_is = m.len_is; now_is = λ i h. m.now_is i h ∙ sym (b i false); then_is = λ i h. m.then_is i h ∙ sym (b i true) }
 
   -- a counting write, with no cycle running before it
-  written : (g : Page) → cy ≡ Idle → Mem p birth (wrote (base p g.target g.start) (take (reach p g.target) (rule.put_bytes g.target g.bytes)) ∷ es) (Busy (pending g)) cells
+  written : (g : Page) → cy ≡ None → Mem p birth (wrote (base p g.target g.start) (take (reach p g.target) (rule.put_bytes g.target g.bytes)) ∷ es) (Some (pending g)) cells
   written g idle =
       let B : ℕ = base p g.target g.start in
       let L : List (Option ℕ) = take (reach p g.target) (rule.put_bytes g.target g.bytes) in
@@ -240,14 +239,14 @@ module _ (p : Shape) (birth : List ℕ) (es : List Entry) (cy : Cycle) (cells : 
         then_is = λ i h. laid_get_or cells B L i (subst (λ n. i < n) (sym m.len_is) h) ∙ ap (or (put_at B L i)) (ap (λ x. get_or (pend p x cells) i 0) (sym idle) ∙ m.then_is i h);
       }
 
-  shut_input : (c d w h : Bool) (g : Page) (sh : Shift) → cy ≡ Idle → (t : Bool) → counts p w st lk g ≡ t →
+  shut_input : (c d w h : Bool) (g : Page) (sh : Shift) → cy ≡ None → (t : Bool) → counts p w st lk g ≡ t →
       Tracks p birth (at_end c d w h (if_so t (wrote (base p g.target g.start) (take (reach p g.target) (rule.put_bytes g.target g.bytes)))))
-      (elim t as (λ _. View) [ true ↦ rule.deselected (vw c d w h (enabled es) cy (Input g) sh cells) (enabled es) (Busy (pending g)) | false ↦ rule.deselected (vw c d w h (enabled es) cy (Input g) sh cells) (enabled es) cy ])
+      (elim t as (λ _. View) [ true ↦ rule.deselected (vw c d w h (enabled es) cy (Input g) sh cells) (enabled es) (Some (pending g)) | false ↦ rule.deselected (vw c d w h (enabled es) cy (Input g) sh cells) (enabled es) cy ])
   shut_input c d w h g sh idle true e = tracks resting (written g idle)
   shut_input c d w h g sh idle false e = tracks resting m
 
   -- what the rules list at the end of a stretch, the journal takes in
-  shut : (c d w h : Bool) (ph : Phase) (sh : Shift) → cy ≡ Idle →
+  shut : (c d w h : Bool) (ph : Phase) (sh : Shift) → cy ≡ None →
       Tracks p birth (at_end c d w h (entry p w st lk ph)) (closed p (vw c d w h (enabled es) cy ph sh cells) ph)
   shut c d w h Deselected sh idle = tracks resting m
   shut c d w h (Instructing n v) sh idle = tracks resting m
@@ -259,9 +258,9 @@ module _ (p : Shape) (birth : List ℕ) (es : List Entry) (cy : Cycle) (cells : 
   shut c d w h (Output r a k) sh idle = tracks resting m
   shut c d w h (Input g) sh idle = shut_input c d w h g sh idle (counts p w st lk g) refl
 
-  idle_by : (x : Cycle) → running x ≡ false → x ≡ Idle
-  idle_by Idle e = refl
-  idle_by (Busy w) e = absurd (both_ways true e refl)
+  idle_by : (x : Option Pending) → running x ≡ false → x ≡ None
+  idle_by None e = refl
+  idle_by (Some w) e = absurd (both_ways true e refl)
 
   -- in a cycle or not
   shut_old : (c d w h : Bool) (sh : Shift) (a wel : Bool) (i : Instruction) (rest : List Bool) → (a ≡ true → accepted (cycle_runs es) i ≡ true) → (r : Bool) → cycle_runs es ≡ r →
@@ -297,7 +296,7 @@ module _ (p : Shape) (birth : List ℕ) (es : List Entry) (cy : Cycle) (cells : 
 
   -- ---- the cycle ends
 
-  done : (w : _) → cy ≡ Busy w → Mem p birth (cycle_end ∷ es) Idle (pend p cy cells)
+  done : (w : _) → cy ≡ Some w → Mem p birth (cycle_end ∷ es) None (pend p cy cells)
   done w e =
       record {
         run_is = refl;
@@ -320,8 +319,8 @@ module _ (p : Shape) (birth : List ℕ) (es : List Entry) (cy : Cycle) (cells : 
       ] in
       old {c = c} {held = held} eight rest a wel sample e8 (λ z. ap (accepted false) (only_rdsr i (ok' z))) so'
 
-  pub end_keeps : (s c d w h held : Bool) (bits : List Bool) (nt : Noted) (last : Level) (sampled : ℕ) (ph : Phase) (sh : Shift) → cycle_runs es ≡ true → Fits p cells es s c held bits nt last sampled ph sh → (x : Cycle) → cy ≡ x →
+  pub end_keeps : (s c d w h held : Bool) (bits : List Bool) (nt : Noted) (last : Level) (sampled : ℕ) (ph : Phase) (sh : Shift) → cycle_runs es ≡ true → Fits p cells es s c held bits nt last sampled ph sh → (x : Option Pending) → cy ≡ x →
       Tracks p birth (noting p birth (jr s c d w h held bits nt last sampled es) CycleEnd) (rule.ended p (vw c d w h (enabled es) cy ph sh cells) x)
-  end_keeps s c d w h held bits nt last sampled ph sh run f Idle e = absurd (both_ways (cycle_runs es) (sym m.run_is ∙ ap running e) run)
-  end_keeps s c d w h held bits nt last sampled ph sh run f (Busy b) e =
-      tracks (end_fits s c held bits nt last sampled ph sh _ run f) (subst (λ x. Mem p birth (cycle_end ∷ es) Idle (pend p x cells)) e (done b e))
+  end_keeps s c d w h held bits nt last sampled ph sh run f None e = absurd (both_ways (cycle_runs es) (sym m.run_is ∙ ap running e) run)
+  end_keeps s c d w h held bits nt last sampled ph sh run f (Some b) e =
+      tracks (end_fits s c held bits nt last sampled ph sh _ run f) (subst (λ x. Mem p birth (cycle_end ∷ es) None (pend p x cells)) e (done b e))

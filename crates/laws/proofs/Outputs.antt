@@ -1,5 +1,5 @@
 -- A shifting fall of C puts out what the journal says.
-use Rattle.std.proofs.Common.{◌≡◌, ℕ, ◌+◌, ◌-◌, ◌/◌, ◌%◌, ◌^◌, ◌<◌, ◌≤◌, Bool, true, false, cond, eqb, ltb, List, [], ◌∷◌, ◌++◌, length, get_or, take, drop, sym, refl, ap, ◌∙◌, subst, inl, inr, mod-lt, arith, length-append, pow_pos}
+use Rattle.std.proofs.Common.{◌≡◌, ℕ, ◌+◌, ◌-◌, ◌/◌, ◌%◌, ◌^◌, ◌<◌, ◌≤◌, Bool, true, false, cond, eqb, ltb, List, [], ◌∷◌, ◌++◌, length, get_or, take, drop, sym, refl, ap, ◌∙◌, subst, inl, inr, mod-lt, arith, length-append, pow_pos, Option}
 use Rattle.std.proofs.lemmas.Bool.{le-leb, lt-leb, cases_lt, both_ways}
 use Rattle.std.proofs.lemmas.List.{drop_at, length-drop, length-take-le}
 use Rattle.rules.specs.declared.state.Level.{Level}
@@ -12,7 +12,7 @@ use Rattle.rules.specs.declared.state.Region.TheVariants as region
 use Rattle.rules.specs.declared.state.Target.TheVariants as target
 use Rattle.rules.specs.declared.state.Shift.{Shift}
 use Rattle.rules.specs.declared.state.Page.{Page}
-use Rattle.rules.specs.declared.state.Cycle.{Cycle}
+use Rattle.rules.specs.declared.state.Pending.{Pending}
 use Rattle.rules.specs.declared.state.Phase.{Phase}
 use Rattle.rules.specs.declared.state.Phase.TheVariants.{Deselected, Instruction as Instructing, Ignored, Enable, Disable, Status, Address, Output, Input}
 use Rattle.rules.specs.Shape.{Shape, Lawful, array_len, ident_at, unique_at, status_at, lock_at, cell_count}
@@ -138,7 +138,7 @@ at_phase : (p : Shape) (v : View) (held : Bool) (ph ph' : Phase) (last last' : L
 at_phase p v held ph ph' last last' sampled e f s =
     subst (λ x. Shifts p v held ph' x sampled) f (subst (λ x. Shifts p v held x last sampled) e s)
 
-module _ (p : Shape) (law : Lawful p) (birth : List ℕ) (es : List Entry) (cy : Cycle) (cells : List ℕ) (m : Mem p birth es cy cells) where
+module _ (p : Shape) (law : Lawful p) (birth : List ℕ) (es : List Entry) (cy : Option Pending) (cells : List ℕ) (m : Mem p birth es cy cells) where
   abbrev pub byte : ℕ → ℕ
   byte i = byte_of birth i false es
 

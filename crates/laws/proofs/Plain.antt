@@ -4,7 +4,6 @@ use Rattle.backing.specs.declared.refusal.Refusal.{Refusal}
 use Rattle.backing.specs.declared.fault.Fault.{Fault}
 use Rattle.rules.specs.declared.state.Event.{Event}
 use Rattle.rules.specs.declared.state.Event.TheVariants.{Select, Clock, Data, Protect, Hold, CycleEnd, Power}
-use Rattle.rules.specs.declared.state.Cycle.TheVariants.{Busy}
 use Rattle.rules.specs.declared.state.Phase.{Phase}
 use Rattle.rules.specs.declared.state.Phase.TheVariants.{Deselected, Instruction as Instructing, Ignored, Enable, Disable, Status, Address, Output, Input}
 use Rattle.rules.specs.Shape.{Shape, status_at, lock_at}
@@ -37,7 +36,7 @@ closed_cells p v (Address a was n b) = refl
 closed_cells p v (Output r a k) = refl
 closed_cells p v (Input g) =
     elim (counts p v.pins.protect (get_or v.cells (status_at p) 0) (get_or v.cells (lock_at p) 0) g)
-    as (λ t. (elim t as (λ _. View) [ true ↦ deselected v v.wel (Busy (pending g)) | false ↦ deselected v v.wel v.cycle ]).cells ≡ v.cells)
+    as (λ t. (elim t as (λ _. View) [ true ↦ deselected v v.wel (Some (pending g)) | false ↦ deselected v v.wel v.cycle ]).cells ≡ v.cells)
     [ true ↦ refl | false ↦ refl ]
 
 select_cells : (p : Shape) (v : View) (held : Bool) → (rises_s p v held).cells ≡ v.cells

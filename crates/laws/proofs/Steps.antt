@@ -5,7 +5,7 @@ use Rattle.backing.specs.declared.refusal.Refusal.TheVariants.{NoCycle}
 use Rattle.rules.specs.declared.state.Level.{Level}
 use Rattle.rules.specs.declared.state.Event.{Event}
 use Rattle.rules.specs.declared.state.Event.TheVariants.{Select, Clock, Data, Protect, Hold, CycleEnd, Power}
-use Rattle.rules.specs.declared.state.Cycle.{Cycle}
+use Rattle.rules.specs.declared.state.Pending.{Pending}
 use Rattle.rules.specs.declared.state.Phase.{Phase}
 use Rattle.rules.specs.declared.state.Shift.{Shift}
 use Rattle.rules.specs.Shape.{Shape, Lawful}
@@ -24,7 +24,7 @@ IsNone (Some r) = ⊥
 no_some : (r : Refusal) → Some r ≡ None → ⊥
 no_some r e = subst IsNone (sym e) tt
 
-module _ (p : Shape) (law : Lawful p) (birth : List ℕ) (es : List Entry) (cy : Cycle) (cells : List ℕ) (m : Mem p birth es cy cells) where
+module _ (p : Shape) (law : Lawful p) (birth : List ℕ) (es : List Entry) (cy : Option Pending) (cells : List ℕ) (m : Mem p birth es cy cells) where
   abbrev J : (s c d w h held : Bool) → List Bool → Noted → Level → ℕ → Journal
   J s c d w h held bits nt last sampled = jr s c d w h held bits nt last sampled es
 

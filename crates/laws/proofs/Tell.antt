@@ -10,7 +10,6 @@ use Rattle.rules.specs.declared.state.Level.TheVariants.{Float}
 use Rattle.rules.specs.declared.state.Region.{Region}
 use Rattle.rules.specs.declared.state.Region.TheVariants as region
 use Rattle.rules.specs.declared.state.Pins.{Pins}
-use Rattle.rules.specs.declared.state.Cycle.TheVariants.{Idle}
 use Rattle.rules.specs.declared.state.Phase.{Phase}
 use Rattle.rules.specs.declared.state.Phase.TheVariants.{Deselected, Status, Output}
 use Rattle.rules.specs.Shape.{Shape, Lawful, array_len, unique_at, status_at, lock_at, cell_count}
@@ -25,7 +24,7 @@ abbrev pub levels : Bool → Bool → Bool → Bool → Pins
 levels c d w h = record { clock = c; input = d; protect = w; hold = h }
 
 abbrev pub rest : Bool → Bool → Bool → Bool → Bool → List ℕ → View
-rest c d w h wel cells = record { pins = levels c d w h; wel = wel; cycle = Idle; stretch = Deselected; shift = at_rest; cells = cells }
+rest c d w h wel cells = record { pins = levels c d w h; wel = wel; cycle = None; stretch = Deselected; shift = at_rest; cells = cells }
 
 -- C low, HOLD high, D at d; bit k of byte b has been shifted out
 abbrev pub putting : (d w wel : Bool) (cells : List ℕ) (b k : ℕ) → Phase → View
@@ -33,7 +32,7 @@ putting d w wel cells b k ph =
     record {
       pins = levels false d w true;
       wel = wel;
-      cycle = Idle;
+      cycle = None;
       stretch = ph;
       shift = record { held = false; shown = level_of (bit_of b k); sample = b };
       cells = cells;
@@ -273,7 +272,7 @@ module _ (p : Shape) (w wel : Bool) (cells : List ℕ) where
       record {
         pins = levels true true w true;
         wel = wel;
-        cycle = Idle;
+        cycle = None;
         stretch = Status 0;
         shift = record { held = false; shown = Float; sample = 0 };
         cells = cells;
@@ -470,7 +469,7 @@ module _ (p : Shape) (law : Lawful p) (c d w h wel wel' : Bool) (cells cells' : 
 
 -- ---- the whole
 
-as_rest : (u : View) → u.stretch ≡ Deselected → u.cycle ≡ Idle → u.shift ≡ at_rest → u ≡ rest u.pins.clock u.pins.input u.pins.protect u.pins.hold u.wel u.cells
+as_rest : (u : View) → u.stretch ≡ Deselected → u.cycle ≡ None → u.shift ≡ at_rest → u ≡ rest u.pins.clock u.pins.input u.pins.protect u.pins.hold u.wel u.cells
 as_rest u s c q = λ i. record { pins = u.pins; wel = u.wel; cycle = c i; stretch = s i; shift = q i; cells = u.cells }
 
 -- chips at rest with these levels, latch and cells
@@ -493,7 +492,7 @@ resting p law x y wel wel' cells cells' b b' f f' al =
     )
 
 pub tells : (p : Shape) → Lawful p → (u v : View) →
-    u.stretch ≡ Deselected → u.cycle ≡ Idle → u.shift ≡ at_rest → v.stretch ≡ Deselected → v.cycle ≡ Idle → v.shift ≡ at_rest →
+    u.stretch ≡ Deselected → u.cycle ≡ None → u.shift ≡ at_rest → v.stretch ≡ Deselected → v.cycle ≡ None → v.shift ≡ at_rest →
     Bytes u.cells → Bytes v.cells → unfit p u.cells ≡ None → unfit p v.cells ≡ None →
     Alike p u v →
     (u.pins ≡ v.pins) × (u.wel ≡ v.wel) × ((i : ℕ) → i < cell_count p → get_or u.cells i 0 ≡ get_or v.cells i 0)

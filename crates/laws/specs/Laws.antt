@@ -6,7 +6,6 @@ use Rattle.backing.specs.declared.refusal.Refusal.{Refusal}
 use Rattle.backing.specs.declared.fault.Fault.{Fault}
 use Rattle.rules.specs.declared.state.Level.{Level}
 use Rattle.rules.specs.declared.state.Phase.TheVariants.{Deselected}
-use Rattle.rules.specs.declared.state.Cycle.TheVariants.{Idle}
 use Rattle.rules.specs.Shape.{Shape, Lawful, cell_count}
 use Rattle.rules.specs.Tables.{level_number, unfit, refused_capture, refused_copy}
 use Rattle.rules.specs.Rules.{View, refused, step, born}
@@ -154,7 +153,7 @@ RefusedCaptureStands =
 -- deselected, with no cycle running
 pub record AtRest (v : View) : Type 0 where
   pub deselected : v.stretch ≡ Deselected
-  pub idle : v.cycle ≡ Idle
+  pub idle : v.cycle ≡ None
 
 -- an action's two bytes are bytes
 abbrev pub of_bytes : List Action → Bool
