@@ -9,7 +9,6 @@ use Rattle.rules.specs.Shape.{Shape, array_len, cell_count}
 use Rattle.rules.specs.Tables.{unfit, refused_copy}
 use Rattle.rules.specs.Rules.{View, running}
 use Rattle.rules.specs.Calls.{outcome, fit_call, copy, unless}
-use Rattle.chip.specs.Answers.{checked}
 use Rattle.chip.specs.Shows.{cells_of}
 
 pub long_cells : (p : Shape) (row : List ℕ) → cell_count p ≤ length row → length (cells_of p row) ≡ cell_count p
@@ -39,10 +38,6 @@ laid_mid at k n old bytes new e f =
     ap (λ ys. take at old ++ (ys ++ drop k (drop at old))) f
     ∙ ap (λ zs. take at old ++ (bytes ++ zs)) (drop-drop k at old ∙ ap (λ m. drop (at + m) old) e)
 
-fit_none : (o : Option Refusal) → Ok tt ≡ checked o → o ≡ None
-fit_none None e = refl
-fit_none (Some r) e = let z : ◌≡◌ {A = ℕ} 0 1 = cc in absurd (omega arith)
-
 abbrev copy_refusal : (there short runs : Bool) → Option Refusal
 copy_refusal there short runs =
     elim there [ false ↦ Some NoSuchPage | true ↦ elim short [ true ↦ Some ShortBuffer | false ↦ elim runs [ true ↦ Some CycleRunning | false ↦ None ] ] ]
@@ -54,7 +49,7 @@ refused_none p runs page at room h k e =
     ∙ ap (λ t. copy_refusal true false t) e
 
 -- a copy that nothing refuses
-pub copy_says : (p : Shape) (v : View) (page at room : ℕ) → Ok tt ≡ checked (unfit p v.cells) → page < array_len p / 256 → at + 256 ≤ room → running v.cycle ≡ false → Ok 256 ≡ (outcome p v (copy page at room)).says
+pub copy_says : (p : Shape) (v : View) (page at room : ℕ) → unfit p v.cells ≡ None → page < array_len p / 256 → at + 256 ≤ room → running v.cycle ≡ false → Ok 256 ≡ (outcome p v (copy page at room)).says
 copy_says p v page at room f h k r =
-    sym (ap (λ o. (unless o v (fit_call p v (copy page at room))).says) (fit_none (unfit p v.cells) f)
+    sym (ap (λ o. (unless o v (fit_call p v (copy page at room))).says) f
     ∙ ap (λ o. (unless o v (record { view = v; levels = []; says = Ok 256 })).says) (refused_none p (running v.cycle) page at room h k r))

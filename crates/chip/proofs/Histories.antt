@@ -4,8 +4,7 @@ use Rattle.std.specs.Result.{result_err}
 use Rattle.backing.specs.Rows.{Bytes}
 use Rattle.backing.specs.declared.refusal.Refusal.{Refusal}
 use Rattle.backing.specs.declared.fault.Fault.{Fault}
-use Rattle.rules.specs.declared.state.Cycle.{Cycle}
-use Rattle.rules.specs.declared.state.Cycle.TheVariants.{Idle, Busy}
+use Rattle.rules.specs.declared.state.Pending.{Pending}
 use Rattle.rules.specs.declared.state.Phase.{Phase}
 use Rattle.rules.specs.declared.state.Phase.TheVariants.{Deselected, Instruction, Ignored, Enable, Disable, Status, Address, Output, Input}
 use Rattle.rules.specs.Shape.{Shape, Lawful, cell_count}
@@ -35,13 +34,9 @@ off (Address a wel n v) e = absurd (true≢false (sym e))
 off (Output r a k) e = absurd (true≢false (sym e))
 off (Input g) e = absurd (true≢false (sym e))
 
-pub idle : (cy : Cycle) → running cy ≡ false → cy ≡ Idle
-idle Idle e = refl
-idle (Busy w) e = absurd (true≢false e)
-
-pub fit : (o : Option Refusal) (x : Unit {0}) → Ok x ≡ checked o → o ≡ None
-fit None x e = refl
-fit (Some r) x e = absurd (true≢false (ap is_ok e))
+pub idle : (cy : Option Pending) → running cy ≡ false → cy ≡ None
+idle None e = refl
+idle (Some w) e = absurd (true≢false e)
 
 abbrev is_same : Result Comparison Fault → Bool
 is_same (Ok Selected) = false
@@ -92,7 +87,7 @@ same_law p lw u v birth birth' h h' bs bs' e e' =
 
 -- ---- fit chips at rest
 
-module _ (p : Shape) (lw : Lawful p) (u v : View) (x y : Unit {0}) (ok : Ok x ≡ checked (unfit p u.cells)) (ok' : Ok y ≡ checked (unfit p v.cells))
+module _ (p : Shape) (lw : Lawful p) (u v : View) (fit : unfit p u.cells ≡ None) (fit' : unfit p v.cells ≡ None)
     (s : is_off u.stretch ≡ true) (s' : is_off v.stretch ≡ true) (c : running u.cycle ≡ false) (c' : running v.cycle ≡ false) where
   rest : AtRest u
   rest = record { deselected = off u.stretch s; idle = idle u.cycle c }
@@ -101,17 +96,17 @@ module _ (p : Shape) (lw : Lawful p) (u v : View) (x y : Unit {0}) (ok : Ok x �
   rest' = record { deselected = off v.stretch s'; idle = idle v.cycle c' }
 
   no_fault : result_err (first_fault p u v) ≡ None
-  no_fault = ap (λ r. result_err (first_of r (checked (unfit p v.cells)))) (sym ok) ∙ ap result_err (sym ok')
+  no_fault = ap (λ o. result_err (first_of (checked o) (checked (unfit p v.cells)))) fit ∙ ap (λ o. result_err (checked o)) fit'
 
   module _ (birth birth' : List ℕ) (h h' : List Call) (bs : Bytes birth) (bs' : Bytes birth') (e : u ≡ chip_after p birth h) (e' : v ≡ chip_after p birth' h') where
     by_law : Alike p u v ↔ Agree p birth birth' (journal_after p birth h) (journal_after p birth' h')
-    by_law = same_law p lw u v birth birth' h h' bs bs' e e' (fit (unfit p u.cells) x ok) (fit (unfit p v.cells) y ok') rest rest'
+    by_law = same_law p lw u v birth birth' h h' bs bs' e e' fit fit' rest rest'
 
     equal_alike : Equal p u v → Alike p u v
-    equal_alike q = by_law.1 (equal_agree p birth birth' (tie_of p lw birth h u e (fit _ x ok)) (tie_of p lw birth' h' v e' (fit _ y ok')) q)
+    equal_alike q = by_law.1 (equal_agree p birth birth' (tie_of p lw birth h u e fit) (tie_of p lw birth' h' v e' fit') q)
 
     alike_equal : Alike p u v → Equal p u v
-    alike_equal al = agree_equal p birth birth' (tie_of p lw birth h u e (fit _ x ok)) (tie_of p lw birth' h' v e' (fit _ y ok')) (by_law.0 al)
+    alike_equal al = agree_equal p birth birth' (tie_of p lw birth h u e fit) (tie_of p lw birth' h' v e' fit') (by_law.0 al)
 
   pub compared_same : Equal p u v → Compared p u v (Ok Same)
   compared_same q =

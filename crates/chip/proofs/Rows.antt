@@ -1,5 +1,5 @@
 -- The part's cells in a row: reading them, judging them, putting a write into them.
-use Rattle.std.proofs.Common.{◌≡◌, ℕ, zero, suc, ◌+◌, ◌<◌, ◌≤◌, min, true, false, List, [], ◌∷◌, length, get_or, take, drop, Some, Ok, Err, Option, Result, sym, refl, ap, ◌∙◌, arith}
+use Rattle.std.proofs.Common.{◌≡◌, ℕ, zero, suc, ◌+◌, ◌<◌, ◌≤◌, min, true, false, List, [], ◌∷◌, length, get_or, take, drop, Some, Ok, Err, Option, Result, sym, refl, ap, ◌∙◌, arith, None}
 use package.base.Fml.{GName}
 use Rattle.std.proofs.lemmas.List.{get_or-take, length-take}
 use Rattle.std.proofs.lemmas.Bool.{lt-ltb, le-ltb}
@@ -9,9 +9,8 @@ use Rattle.backing.specs.declared.refusal.Refusal.{Refusal}
 use Rattle.backing.specs.declared.refusal.Refusal.TheVariants.{ShortBacking}
 use Rattle.backing.specs.declared.fault.Fault.{Fault}
 use Rattle.rules.specs.Shape.{Shape, cell_count, status_at, lock_at}
-use Rattle.rules.specs.Tables.{unfit, or}
+use Rattle.rules.specs.Tables.{unfit, or, passed}
 use Rattle.rules.specs.declared.state.Pending.{Pending}
-use Rattle.rules.specs.declared.state.Cycle.TheVariants.{Idle, Busy}
 use Rattle.rules.specs.Rules.{View, laid, over, base, reach, ended}
 use Rattle.chip.specs.Shows.{cells_of, Kept}
 use Rattle.chip.specs.Answers.{checked, unlawful}
@@ -36,18 +35,30 @@ long_row p row long =
     ap (λ t. elim t as (λ _. Option Refusal) [ true ↦ Some ShortBacking | false ↦ unlawful (get_or (cells_of p row) (status_at p) 0) (get_or (cells_of p row) (lock_at p) 0) ])
     (le-ltb (length (cells_of p row)) (cell_count p) (omega (arith, length_cells p row)))
 
-abbrev ok_value : Result ℕ Fault → ℕ
-ok_value (Ok n) = n
-ok_value (Err e) = 0
-
 -- a long row, by its two cells as they were read
-pub judged_row : (p : Shape) (row : List ℕ) (s l : ℕ) (o : Option Refusal) → cell_count p ≤ length row →
-    ◌≡◌ {A = Result ℕ Fault} (Ok s) (Ok (get_or (cells_of p row) (status_at p) 0)) → ◌≡◌ {A = Result ℕ Fault} (Ok l) (Ok (get_or (cells_of p row) (lock_at p) 0)) → o ≡ unlawful s l → unfit p (cells_of p row) ≡ o
-judged_row p row s l o long es el eo =
-    long_row p row long
-    ∙ ap (λ x. unlawful x (get_or (cells_of p row) (lock_at p) 0)) (sym (ap ok_value es))
-    ∙ ap (λ x. unlawful s x) (sym (ap ok_value el))
-    ∙ sym eo
+judged_row : (p : Shape) (row : List ℕ) (s l : ℕ) → cell_count p ≤ length row →
+    ◌≡◌ {A = Result ℕ Fault} (Ok s) (Ok (get_or (cells_of p row) (status_at p) 0)) → ◌≡◌ {A = Result ℕ Fault} (Ok l) (Ok (get_or (cells_of p row) (lock_at p) 0)) → unfit p (cells_of p row) ≡ unlawful s l
+judged_row p row s l long es el =
+    let s' : get_or (cells_of p row) (status_at p) 0 ≡ s = cc in
+    let l' : get_or (cells_of p row) (lock_at p) 0 ≡ l = cc in
+    long_row p row long ∙ ap (λ x. unlawful x (get_or (cells_of p row) (lock_at p) 0)) s' ∙ ap (λ x. unlawful s x) l'
+
+-- a check that passes, and one that refuses
+pub passed_none : (o : Option Refusal) → ◌≡◌ {A = Result (Unit {0}) Refusal} (passed o) (Ok tt) → o ≡ None
+passed_none None e = refl
+passed_none (Some r) e = absurd cc
+
+pub passed_some : (o : Option Refusal) (r : Refusal) → ◌≡◌ {A = Result (Unit {0}) Refusal} (passed o) (Err r) → o ≡ Some r
+passed_some None r e = absurd cc
+passed_some (Some q) r e = cc
+
+pub judged_fit : (p : Shape) (row : List ℕ) (s l : ℕ) → cell_count p ≤ length row →
+    ◌≡◌ {A = Result ℕ Fault} (Ok s) (Ok (get_or (cells_of p row) (status_at p) 0)) → ◌≡◌ {A = Result ℕ Fault} (Ok l) (Ok (get_or (cells_of p row) (lock_at p) 0)) → passed (unlawful s l) ≡ Ok tt → unfit p (cells_of p row) ≡ None
+judged_fit p row s l long es el e = judged_row p row s l long es el ∙ passed_none (unlawful s l) e
+
+pub judged_unfit : (p : Shape) (row : List ℕ) (s l : ℕ) (r : Refusal) → cell_count p ≤ length row →
+    ◌≡◌ {A = Result ℕ Fault} (Ok s) (Ok (get_or (cells_of p row) (status_at p) 0)) → ◌≡◌ {A = Result ℕ Fault} (Ok l) (Ok (get_or (cells_of p row) (lock_at p) 0)) → passed (unlawful s l) ≡ Err r → checked (unfit p (cells_of p row)) ≡ Err (raised r 0)
+judged_unfit p row s l r long es el e = ap checked (judged_row p row s l long es el ∙ passed_some (unlawful s l) r e)
 
 take_over : (n : ℕ) (xs : List ℕ) (bytes : List (Option ℕ)) → take n (over xs bytes) ≡ over (take n xs) bytes
 take_over zero xs bytes = refl
@@ -79,20 +90,20 @@ unfolding cells_of
 laid_cells p xs at bytes = take_laid (cell_count p) xs at bytes
 
 -- and leaves the rest
-pub laid_kept : {B : Type 0} (p : Shape) (row past : B → List ℕ) (held : B → List GName) (x y : B) (at len : ℕ) (bytes : List (Option ℕ)) → at + len ≤ cell_count p → row y ≡ laid (row x) at (take len bytes) → held y ≡ held x → past y ≡ past x → Kept p row past held x y
-laid_kept p row past held x y at len bytes h e hs ps =
+pub laid_kept : {B : Type 0} (p : Shape) (row past : B → List ℕ) (held : B → List GName) (x y : B) (at : ℕ) (bytes : List (Option ℕ)) → at + length bytes ≤ cell_count p → row y ≡ laid (row x) at bytes → held y ≡ held x → past y ≡ past x → Kept p row past held x y
+laid_kept p row past held x y at bytes h e hs ps =
     record {
       same_held = hs;
       same_past = ps;
-      same_length = ap length e ∙ length_laid (row x) at (take len bytes);
-      same_rest = ap (drop (cell_count p)) e ∙ drop_laid (cell_count p) (row x) at (take len bytes) (omega (arith, length-take len bytes));
+      same_length = ap length e ∙ length_laid (row x) at bytes;
+      same_rest = ap (drop (cell_count p)) e ∙ drop_laid (cell_count p) (row x) at bytes h;
     }
 
 -- the end of a cycle
-pub ended_view : (p : Shape) (v : View) (w : Pending) (xs ys : List ℕ) (at len : ℕ) → v.cells ≡ cells_of p xs → v.cycle ≡ Busy w → at ≡ base p w.target w.start → len ≡ reach p w.target → ys ≡ laid xs at (take len w.bytes) →
-    ◌≡◌ {A = View} (record { pins = v.pins; wel = false; cycle = Idle; stretch = v.stretch; shift = v.shift; cells = cells_of p ys }) (ended p v v.cycle)
+pub ended_view : (p : Shape) (v : View) (w : Pending) (xs ys : List ℕ) (at len : ℕ) → v.cells ≡ cells_of p xs → v.cycle ≡ Some w → at ≡ base p w.target w.start → len ≡ reach p w.target → ys ≡ laid xs at (take len w.bytes) →
+    ◌≡◌ {A = View} (record { pins = v.pins; wel = false; cycle = None; stretch = v.stretch; shift = v.shift; cells = cells_of p ys }) (ended p v v.cycle)
 ended_view p v w xs ys at len q m ea el e =
-    let F : List ℕ → View = λ cs. record { pins = v.pins; wel = false; cycle = Idle; stretch = v.stretch; shift = v.shift; cells = cs } in
+    let F : List ℕ → View = λ cs. record { pins = v.pins; wel = false; cycle = None; stretch = v.stretch; shift = v.shift; cells = cs } in
     ap F (ap (cells_of p) e
     ∙ laid_cells p xs at (take len w.bytes)
     ∙ ap (λ zs. laid zs at (take len w.bytes)) (sym q)

@@ -1,5 +1,5 @@
 -- What a call answers.
-use Rattle.std.specs.Prelude.{◌≡◌, ℕ, Bool, true, false, Some, None, Ok, Err, Option, Result, ◌==◌, nat_lt}
+use Rattle.std.specs.Prelude.{◌≡◌, ℕ, Bool, true, false, Some, None, Ok, Err, Option, Result, ◌==◌, nat_lt, slice_index}
 use Rattle.backing.specs.Faults.{raised}
 use Rattle.backing.specs.declared.refusal.Refusal.{Refusal}
 use Rattle.backing.specs.declared.refusal.Refusal.TheVariants.{StatusBits, LockValue}
@@ -7,8 +7,11 @@ use Rattle.backing.specs.declared.fault.Fault.{Fault}
 use Rattle.rules.specs.declared.state.Event.{Event}
 use Rattle.rules.specs.declared.state.Level.{Level}
 use Rattle.rules.specs.declared.state.Pins.{Pins}
-use Rattle.rules.specs.Tables.{kept, level_number, refused_event}
-use Rattle.rules.specs.Rules.{Done, taken, refused, seen}
+use Rattle.rules.specs.declared.state.Phase.{Phase}
+use Rattle.rules.specs.declared.state.Phase.TheVariants.{Deselected, Instruction, Ignored, Enable, Disable, Status, Address, Output, Input}
+use Rattle.rules.specs.Shape.{Shape, status_at}
+use Rattle.rules.specs.Tables.{kept, level_number, refused_event, status_byte}
+use Rattle.rules.specs.Rules.{View, Done, taken, refused, seen, running, place}
 
 -- a refusal, if there is one, as the answer of a check
 abbrev pub checked : Option Refusal → Result (Unit {0}) Fault
@@ -43,3 +46,18 @@ unlawful st lk =
 -- a fresh byte is the one asked for where it is due: at bit 0 of an output byte, the highest
 abbrev pub Due : (k fresh byte : ℕ) → Type 0
 Due k fresh byte = k ≡ 0 → fresh ≡ byte
+
+-- what a fall of C may begin to put out, by the stretch
+abbrev pub FreshIn : Shape → View → Phase → ℕ → Type 0
+FreshIn p v Deselected fresh = Unit {0}
+FreshIn p v (Instruction n b) fresh = Unit {0}
+FreshIn p v Ignored fresh = Unit {0}
+FreshIn p v Enable fresh = Unit {0}
+FreshIn p v Disable fresh = Unit {0}
+FreshIn p v (Status k) fresh = Due k fresh (status_byte (slice_index v.cells (status_at p)) v.wel (running v.cycle))
+FreshIn p v (Address a wel n b) fresh = Unit {0}
+FreshIn p v (Output r a k) fresh = Due k fresh (slice_index v.cells (place p r a))
+FreshIn p v (Input g) fresh = Unit {0}
+
+abbrev pub Fresh : Shape → View → ℕ → Type 0
+Fresh p v fresh = FreshIn p v v.stretch fresh

@@ -9,12 +9,9 @@ use Rattle.rules.specs.Rules.{View, running, is_off}
 use Rattle.rules.specs.Calls.{Call}
 use Rattle.laws.specs.Laws.{chip_after, journal_after, AtRest, Alike, Agree}
 use Rattle.chip.specs.Answers.{checked}
+use Rattle.chip.specs.Equality.{EqualCells}
 use Rattle.chip.specs.declared.sameness.Comparison.{Comparison}
 use Rattle.chip.specs.declared.sameness.Comparison.TheVariants.{Selected, Running, Same, Different}
-
--- the part's cells hold the same bytes
-abbrev pub EqualCells : Shape → List ℕ → List ℕ → Type 0
-EqualCells p xs ys = (i : ℕ) → i < cell_count p → slice_index xs i ≡ slice_index ys i
 
 -- the same levels of C, D, W and HOLD, the same write enable latch, the same cells
 pub record Equal (p : Shape) (u v : View) : Type 0 where

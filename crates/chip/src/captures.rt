@@ -5,7 +5,7 @@ ghost use Rattle.rules.specs.Calls.{outcome, capture as capturing, records as th
 ghost use Rattle.chip.specs.Shows.{view_of, Kept};
 ghost use Rattle.chip.specs.Histories.{CaptureLaw};
 
-use super::cells;
+use super::cells::Cells;
 use super::part::Part;
 use super::unit::Chip;
 use backing::fault::Fault;
@@ -15,48 +15,39 @@ use backing::row::Backing;
 impl<'a, P: Part, B: Backing> Chip<'a, P, B> {
     // Takes the records, each a kind and a level, and answers how many; Q after record i goes to answers[i].
     pub fn capture(&mut self, records: &[u8], answers: &mut [u8]) -> Result<usize, Fault>
-        ensures view { view_of P.Part.shape B.Backing.row self.new ≡ (outcome P.Part.shape (view_of P.Part.shape B.Backing.row self.old) (capturing records.now (length answers.old))).view }
-        ensures says { result ≡ (outcome P.Part.shape (view_of P.Part.shape B.Backing.row self.old) (capturing records.now (length answers.old))).says }
-        ensures answers { answers.new ≡ written (outcome P.Part.shape (view_of P.Part.shape B.Backing.row self.old) (capturing records.now (length answers.old))).levels answers.old }
+        ensures view { view_of P.shape B.Backing.row self.new ≡ (outcome P.shape (view_of P.shape B.Backing.row self.old) (capturing records.now (length answers.old))).view }
+        ensures says { result ≡ (outcome P.shape (view_of P.shape B.Backing.row self.old) (capturing records.now (length answers.old))).says }
+        ensures answers { answers.new ≡ written (outcome P.shape (view_of P.shape B.Backing.row self.old) (capturing records.now (length answers.old))).levels answers.old }
         ensures lent { self.new.backing.ghost_name ≡ self.old.backing.ghost_name }
-        ensures kept { Kept P.Part.shape B.Backing.row B.Backing.past B.Backing.held self.old.backing.now self.new.backing.now }
-        ensures law { CaptureLaw P.Part.shape (view_of P.Part.shape B.Backing.row self.old) (view_of P.Part.shape B.Backing.row self.new) records.now answers.old answers.new (length answers.old) result }
+        ensures kept { Kept P.shape B.Backing.row B.Backing.past B.Backing.held self.old.backing.now self.new.backing.now }
+        ensures law { CaptureLaw P.shape (view_of P.shape B.Backing.row self.old) (view_of P.shape B.Backing.row self.new) records.now answers.old answers.new (length answers.old) result }
     {
-        self.run(records, answers)
-    }
-
-    fn run(&mut self, records: &[u8], answers: &mut [u8]) -> Result<usize, Fault>
-        ensures view { view_of P.Part.shape B.Backing.row self.new ≡ (outcome P.Part.shape (view_of P.Part.shape B.Backing.row self.old) (capturing records.now (length answers.old))).view }
-        ensures says { result ≡ (outcome P.Part.shape (view_of P.Part.shape B.Backing.row self.old) (capturing records.now (length answers.old))).says }
-        ensures answers { answers.new ≡ written (outcome P.Part.shape (view_of P.Part.shape B.Backing.row self.old) (capturing records.now (length answers.old))).levels answers.old }
-        ensures lent { self.new.backing.ghost_name ≡ self.old.backing.ghost_name }
-        ensures kept { Kept P.Part.shape B.Backing.row B.Backing.past B.Backing.held self.old.backing.now self.new.backing.now }
-    {
-        cells::making::<P, B>(self.backing)?;
+        Cells::<P, B>::of(self.backing)?;
         if records.len() % 2 != 0 {
-            return Err(Fault::of(Refusal::OddLength));
+            return Err(Fault::from(Refusal::OddLength));
         }
         if answers.len() < records.len() / 2 {
-            return Err(Fault::of(Refusal::ShortAnswers));
+            return Err(Fault::from(Refusal::ShortAnswers));
         }
         self.records(records, answers)
     }
 
+    // Records up to the first that is refused.
     fn records(&mut self, records: &[u8], answers: &mut [u8]) -> Result<usize, Fault>
-        requires long { cell_count P.Part.shape ≤ length (B.Backing.row self.old.backing.now) }
+        requires long { cell_count P.shape ≤ length (B.Backing.row self.old.backing.now) }
         requires even { length records.now % 2 ≡ 0 }
         requires room { length records.now / 2 ≤ length answers.old }
-        ensures view { view_of P.Part.shape B.Backing.row self.new ≡ (through P.Part.shape (view_of P.Part.shape B.Backing.row self.old) 0 records.now).view }
-        ensures says { result ≡ (through P.Part.shape (view_of P.Part.shape B.Backing.row self.old) 0 records.now).says }
-        ensures answers { answers.new ≡ written (through P.Part.shape (view_of P.Part.shape B.Backing.row self.old) 0 records.now).levels answers.old }
+        ensures view { view_of P.shape B.Backing.row self.new ≡ (through P.shape (view_of P.shape B.Backing.row self.old) 0 records.now).view }
+        ensures says { result ≡ (through P.shape (view_of P.shape B.Backing.row self.old) 0 records.now).says }
+        ensures answers { answers.new ≡ written (through P.shape (view_of P.shape B.Backing.row self.old) 0 records.now).levels answers.old }
         ensures lent { self.new.backing.ghost_name ≡ self.old.backing.ghost_name }
-        ensures kept { Kept P.Part.shape B.Backing.row B.Backing.past B.Backing.held self.old.backing.now self.new.backing.now }
+        ensures kept { Kept P.shape B.Backing.row B.Backing.past B.Backing.held self.old.backing.now self.new.backing.now }
     {
         let count = records.len() / 2;
         for i in 0..count {
             match self.step(records[2 * i], records[2 * i + 1]) {
-                Ok(level) => answers[i] = level.number(),
-                Err(fault) => return Err(Fault { record: i, ..fault }),
+                Ok(level) => answers[i] = u8::from(level),
+                Err(fault) => return Err(fault.at(i)),
             }
         }
         Ok(count)

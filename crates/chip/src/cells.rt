@@ -1,10 +1,11 @@
 // The cells of a part in a backing.
-ghost use Rattle.std.specs.Prelude.{◌≡◌, ℕ, ◌+◌, ◌^◌, ◌<◌, ◌≤◌, true, length, take, is_ok, Ok, slice_index};
+ghost use Rattle.std.specs.Prelude.{◌≡◌, ℕ, ◌+◌, ◌^◌, ◌<◌, ◌≤◌, length, take, drop, None, Ok, Err, MatchResult, Decides, slice_index};
 ghost use Rattle.rules.specs.Shape.{cell_count, status_at, lock_at};
-ghost use Rattle.rules.specs.Tables.{unfit};
+ghost use Rattle.rules.specs.Tables.{unfit, passed};
 ghost use Rattle.rules.specs.Rules.{laid, counts};
 ghost use Rattle.chip.specs.Shows.{cells_of};
 ghost use Rattle.chip.specs.Answers.{checked, unlawful};
+ghost use Rattle.chip.specs.Equality.{EqualCells};
 
 use super::part::Part;
 use super::places;
@@ -13,93 +14,132 @@ use backing::refusal::Refusal;
 use backing::row::Backing;
 use rules::page::keep;
 use rules::state::Page;
+use std::marker::PhantomData;
 
-// The byte of a cell.
-pub(crate) fn cell<P: Part, B: Backing>(backing: &B, place: usize) -> Result<u8, Fault>
-    requires { (place < cell_count P.Part.shape) × (cell_count P.Part.shape ≤ length (B.Backing.row backing.now)) }
-    ensures { result ≡ Ok (slice_index (cells_of P.Part.shape (B.Backing.row backing.now)) place) }
-{
-    backing.get(place)
+// A part's cells: the front of a backing that has them all.
+#[derive(Drop)]
+pub(crate) struct Cells<'c, P: Part, B: Backing> {
+    pub(crate) backing: &'c B,
+    part: PhantomData<P>,
+    ghost whole: { cell_count P.shape ≤ length (B.Backing.row backing.now) },
 }
 
-pub(crate) fn status<P: Part, B: Backing>(backing: &B) -> Result<u8, Fault>
-    requires { cell_count P.Part.shape ≤ length (B.Backing.row backing.now) }
-    ensures { result ≡ Ok (slice_index (cells_of P.Part.shape (B.Backing.row backing.now)) (status_at P.Part.shape)) }
-{
-    cell::<P, B>(backing, places::unique_start::<P>() + 16)
-}
-
-pub(crate) fn lock<P: Part, B: Backing>(backing: &B) -> Result<u8, Fault>
-    requires { cell_count P.Part.shape ≤ length (B.Backing.row backing.now) }
-    ensures { result ≡ Ok (slice_index (cells_of P.Part.shape (B.Backing.row backing.now)) (lock_at P.Part.shape)) }
-{
-    cell::<P, B>(backing, places::unique_start::<P>() + 17)
-}
-
-fn judge_cells(status: u8, lock: u8) -> Option<Refusal>
-    ensures { result ≡ unlawful status lock }
+// Whether the status and the lock cell may be so.
+fn judge_cells(status: u8, lock: u8) -> Result<(), Refusal>
+    ensures { result ≡ passed (unlawful status lock) }
 {
     if keep(status) != status {
-        return Some(Refusal::StatusBits);
+        return Err(Refusal::StatusBits);
     }
     if lock > 1 {
-        Some(Refusal::LockValue)
-    } else {
-        None
+        return Err(Refusal::LockValue);
     }
+    Ok(())
 }
 
-// Making's refusals: whether the row can be the part's cells.
-pub(crate) fn making<P: Part, B: Backing>(backing: &B) -> Result<(), Fault>
-    ensures value { result ≡ checked (unfit P.Part.shape (cells_of P.Part.shape (B.Backing.row backing.now))) }
-    ensures long { is_ok result ≡ true → cell_count P.Part.shape ≤ length (B.Backing.row backing.now) }
-{
-    if backing.len() < places::unique_start::<P>() + 18 {
-        return Err(Fault::of(Refusal::ShortBacking));
+impl<'c, P: Part, B: Backing> Cells<'c, P, B> {
+    // Making's refusals: whether the backing's row can be the part's cells.
+    pub(crate) fn of(backing: &'c B) -> Result<Cells<'c, P, B>, Fault>
+        ensures { MatchResult result (λ cells. (unfit P.shape (cells_of P.shape (B.Backing.row backing.now)) ≡ None) × (cells.backing.now ≡ backing.now)) (λ fault. checked (unfit P.shape (cells_of P.shape (B.Backing.row backing.now))) ≡ Err fault) }
+    {
+        if backing.len() < places::cell_count::<P>() {
+            return Err(Fault::from(Refusal::ShortBacking));
+        }
+        let cells = Cells {
+            backing,
+            part: PhantomData,
+        };
+        let status = cells.status()?;
+        let lock = cells.lock()?;
+        judge_cells(status, lock)?;
+        Ok(cells)
     }
-    let status = status::<P, B>(backing)?;
-    let lock = lock::<P, B>(backing)?;
-    match judge_cells(status, lock) {
-        Some(refusal) => Err(Fault::of(refusal)),
-        None => Ok(()),
-    }
-}
 
-// Whether a write counts, with W at this level.
-pub(crate) fn takes<P: Part, B: Backing>(
-    backing: &B,
-    protect: bool,
-    page: &Page,
-) -> Result<bool, Fault>
-    requires { cell_count P.Part.shape ≤ length (B.Backing.row backing.now) }
-    ensures { result ≡ Ok (counts P.Part.shape protect (slice_index (cells_of P.Part.shape (B.Backing.row backing.now)) (status_at P.Part.shape)) (slice_index (cells_of P.Part.shape (B.Backing.row backing.now)) (lock_at P.Part.shape)) page.now) }
-{
-    let status = status::<P, B>(backing)?;
-    let lock = lock::<P, B>(backing)?;
-    Ok(page.counts(
-        places::is_open::<P>(status, page.start),
-        protect,
-        status,
-        lock,
-    ))
+    // The cells of a backing that has them all.
+    pub(crate) fn new(backing: &'c B) -> Cells<'c, P, B>
+        requires { cell_count P.shape ≤ length (B.Backing.row backing.now) }
+        ensures { result.backing.now ≡ backing.now }
+    {
+        Cells {
+            backing,
+            part: PhantomData,
+        }
+    }
+
+    // The byte of a cell.
+    pub(crate) fn get(&self, place: usize) -> Result<u8, Fault>
+        requires { place < cell_count P.shape }
+        ensures { result ≡ Ok (slice_index (cells_of P.shape (B.Backing.row self.now.backing.now)) place) }
+    {
+        self.backing.get(place)
+    }
+
+    pub(crate) fn status(&self) -> Result<u8, Fault>
+        ensures { result ≡ Ok (slice_index (cells_of P.shape (B.Backing.row self.now.backing.now)) (status_at P.shape)) }
+    {
+        self.get(places::unique_start::<P>() + 16)
+    }
+
+    pub(crate) fn lock(&self) -> Result<u8, Fault>
+        ensures { result ≡ Ok (slice_index (cells_of P.shape (B.Backing.row self.now.backing.now)) (lock_at P.shape)) }
+    {
+        self.get(places::unique_start::<P>() + 17)
+    }
+
+    // Whether a write counts, with W at this level.
+    pub(crate) fn takes(&self, protect: bool, page: &Page) -> Result<bool, Fault>
+        ensures { result ≡ Ok (counts P.shape protect (slice_index (cells_of P.shape (B.Backing.row self.now.backing.now)) (status_at P.shape)) (slice_index (cells_of P.shape (B.Backing.row self.now.backing.now)) (lock_at P.shape)) page.now) }
+    {
+        let status = self.status()?;
+        let lock = self.lock()?;
+        Ok(page.counts(
+            places::is_open::<P>(status, page.start),
+            protect,
+            status,
+            lock,
+        ))
+    }
+
+    // Fills `out` with the cells from `from` on.
+    pub(crate) fn fill(&self, from: usize, out: &mut [u8]) -> Result<(), Fault>
+        requires { (length out.old ≡ 256) × (from + 256 ≤ cell_count P.shape) }
+        ensures made { result ≡ Ok tt }
+        ensures out { out.new ≡ take 256 (drop from (cells_of P.shape (B.Backing.row self.now.backing.now))) }
+    {
+        for (i, byte) in out.iter_mut().enumerate() {
+            *byte = self.get(from + i)?;
+        }
+        Ok(())
+    }
+
+    // Whether the cells of two chips hold the same bytes.
+    pub(crate) fn same<A: Backing>(&self, other: &Cells<'_, P, A>) -> Result<bool, Fault>
+        ensures { MatchResult result (λ same. Decides same (EqualCells P.shape (cells_of P.shape (B.Backing.row self.now.backing.now)) (cells_of P.shape (A.Backing.row other.now.backing.now)))) (λ _. ⊥) }
+    {
+        for place in 0..places::cell_count::<P>() {
+            if self.get(place)? != other.get(place)? {
+                return Ok(false);
+            }
+        }
+        Ok(true)
+    }
 }
 
 // Puts the bytes of a write into the row, from `base` on.
 pub(crate) fn lay<B: Backing>(
     backing: &mut B,
     base: usize,
-    len: usize,
-    bytes: &[Option<u8>; 256],
+    bytes: &[Option<u8>],
 ) -> Result<(), Fault>
-    requires { (base < 2 ^ 32) × (len ≤ 256) × (base + len ≤ length (B.Backing.row backing.old)) }
+    requires { (base < 2 ^ 32) × (length bytes.now ≤ 256) × (base + length bytes.now ≤ length (B.Backing.row backing.old)) }
     ensures made { result ≡ Ok tt }
-    ensures row { B.Backing.row backing.new ≡ laid (B.Backing.row backing.old) base (take len bytes.now) }
+    ensures row { B.Backing.row backing.new ≡ laid (B.Backing.row backing.old) base bytes.now }
     ensures held { B.Backing.held backing.new ≡ B.Backing.held backing.old }
     ensures past { B.Backing.past backing.new ≡ B.Backing.past backing.old }
 {
-    for i in 0..len {
-        if let Some(b) = bytes[i] {
-            backing.put(base + i, b)?;
+    for (i, byte) in bytes.iter().enumerate() {
+        if let Some(byte) = byte {
+            backing.put(base + i, *byte)?;
         }
     }
     Ok(())

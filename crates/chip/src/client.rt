@@ -18,10 +18,10 @@ fn run_on<P: Part, B: Backing>(
     records: &[u8],
     answers: &mut [u8],
 ) -> Result<usize, Fault>
-    ensures says { result ≡ (outcome P.Part.shape (born P.Part.shape (B.Backing.row backing.old)) (capturing records.now (length answers.old))).says }
-    ensures answers { answers.new ≡ written (outcome P.Part.shape (born P.Part.shape (B.Backing.row backing.old)) (capturing records.now (length answers.old))).levels answers.old }
-    ensures cells { cells_of P.Part.shape (B.Backing.row backing.new) ≡ (outcome P.Part.shape (born P.Part.shape (B.Backing.row backing.old)) (capturing records.now (length answers.old))).view.cells }
-    ensures rest { drop (cell_count P.Part.shape) (B.Backing.row backing.new) ≡ drop (cell_count P.Part.shape) (B.Backing.row backing.old) }
+    ensures says { result ≡ (outcome P.shape (born P.shape (B.Backing.row backing.old)) (capturing records.now (length answers.old))).says }
+    ensures answers { answers.new ≡ written (outcome P.shape (born P.shape (B.Backing.row backing.old)) (capturing records.now (length answers.old))).levels answers.old }
+    ensures cells { cells_of P.shape (B.Backing.row backing.new) ≡ (outcome P.shape (born P.shape (B.Backing.row backing.old)) (capturing records.now (length answers.old))).view.cells }
+    ensures rest { drop (cell_count P.shape) (B.Backing.row backing.new) ≡ drop (cell_count P.shape) (B.Backing.row backing.old) }
     ensures held { B.Backing.held backing.new ≡ B.Backing.held backing.old }
     ensures past { B.Backing.past backing.new ≡ B.Backing.past backing.old }
 {
@@ -35,10 +35,10 @@ pub fn run_on_bytes<P: Part>(
     records: &[u8],
     answers: &mut [u8],
 ) -> Result<usize, Fault>
-    ensures says { result ≡ (outcome P.Part.shape (born P.Part.shape (imaged bytes.old)) (capturing records.now (length answers.old))).says }
-    ensures answers { answers.new ≡ written (outcome P.Part.shape (born P.Part.shape (imaged bytes.old)) (capturing records.now (length answers.old))).levels answers.old }
-    ensures cells { cells_of P.Part.shape (imaged bytes.new) ≡ (outcome P.Part.shape (born P.Part.shape (imaged bytes.old)) (capturing records.now (length answers.old))).view.cells }
-    ensures rest { drop (cell_count P.Part.shape) (imaged bytes.new) ≡ drop (cell_count P.Part.shape) (imaged bytes.old) }
+    ensures says { result ≡ (outcome P.shape (born P.shape (imaged bytes.old)) (capturing records.now (length answers.old))).says }
+    ensures answers { answers.new ≡ written (outcome P.shape (born P.shape (imaged bytes.old)) (capturing records.now (length answers.old))).levels answers.old }
+    ensures cells { cells_of P.shape (imaged bytes.new) ≡ (outcome P.shape (born P.shape (imaged bytes.old)) (capturing records.now (length answers.old))).view.cells }
+    ensures rest { drop (cell_count P.shape) (imaged bytes.new) ≡ drop (cell_count P.shape) (imaged bytes.old) }
     ensures past { beyond bytes.new ≡ beyond bytes.old }
 {
     let mut image = Image::new(bytes);

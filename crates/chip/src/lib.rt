@@ -8,6 +8,7 @@ pub mod client;
 mod copies;
 pub mod delivered;
 mod events;
+mod moves;
 pub mod part;
 pub mod places;
 pub mod sameness;

@@ -1,8 +1,10 @@
 // A part by its two constants; all places and counts follow from them.
-ghost use Rattle.std.specs.Prelude.{◌≡◌};
+ghost use Rattle.std.specs.Prelude.{◌≡◌, ℕ, refl};
 ghost use Rattle.rules.specs.Ident.{ident_length};
 ghost use Rattle.rules.specs.Shape.{Shape, Lawful};
-ghost use Rattle.std.proofs.Common.{rules};
+ghost use Rattle.rules.specs.declared.state.IdentPage.{IdentPage as Ident};
+ghost use Rattle.rules.specs.declared.state.IdentPage.TheVariants.{Long};
+ghost use Rattle.std.proofs.Common.{lit≤, inr};
 
 use rules::state::IdentPage;
 
@@ -11,13 +13,13 @@ pub trait Part {
 
     const IDENT_PAGE: IdentPage;
 
+    ghost ADDRESS_BITS: { ℕ };
+
+    ghost IDENT_PAGE: { Ident };
+
     ghost shape: { Shape };
 
-    fn width() -> u32
-        ensures { result ≡ shape.bits };
-
-    fn page() -> IdentPage
-        ensures { ident_length result ≡ shape.ident };
+    ghost is_shape: { shape ≡ record { bits = ADDRESS_BITS; ident = ident_length IDENT_PAGE } };
 
     ghost lawful: { Lawful shape };
 }
@@ -29,17 +31,15 @@ impl Part for Cm01 {
 
     const IDENT_PAGE: IdentPage = IdentPage::Long;
 
+    ghost ADDRESS_BITS = { 17 };
+
+    ghost IDENT_PAGE = { Long };
+
     ghost shape = { record { bits = 17; ident = 256 } };
 
-    ghost lawful = { Prim.search rules };
+    ghost is_shape = { refl };
 
-    fn width() -> u32 {
-        Self::ADDRESS_BITS
-    }
-
-    fn page() -> IdentPage {
-        Self::IDENT_PAGE
-    }
+    ghost lawful = { record { low = lit≤ tt; high = lit≤ tt; page = inr refl } };
 }
 
 pub struct Cm02;
@@ -49,17 +49,15 @@ impl Part for Cm02 {
 
     const IDENT_PAGE: IdentPage = IdentPage::Long;
 
+    ghost ADDRESS_BITS = { 18 };
+
+    ghost IDENT_PAGE = { Long };
+
     ghost shape = { record { bits = 18; ident = 256 } };
 
-    ghost lawful = { Prim.search rules };
+    ghost is_shape = { refl };
 
-    fn width() -> u32 {
-        Self::ADDRESS_BITS
-    }
-
-    fn page() -> IdentPage {
-        Self::IDENT_PAGE
-    }
+    ghost lawful = { record { low = lit≤ tt; high = lit≤ tt; page = inr refl } };
 }
 
 pub struct Bench;
@@ -69,15 +67,13 @@ impl Part for Bench {
 
     const IDENT_PAGE: IdentPage = IdentPage::Long;
 
+    ghost ADDRESS_BITS = { 12 };
+
+    ghost IDENT_PAGE = { Long };
+
     ghost shape = { record { bits = 12; ident = 256 } };
 
-    ghost lawful = { Prim.search rules };
+    ghost is_shape = { refl };
 
-    fn width() -> u32 {
-        Self::ADDRESS_BITS
-    }
-
-    fn page() -> IdentPage {
-        Self::IDENT_PAGE
-    }
+    ghost lawful = { record { low = lit≤ tt; high = lit≤ tt; page = inr refl } };
 }

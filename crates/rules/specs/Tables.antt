@@ -59,9 +59,9 @@ decoded k l =
     ]
 
 -- a check's answer: the refusal, where there is one
-abbrev pub spared : Option Refusal → Result (Unit {0}) Refusal
-spared None = Ok tt
-spared (Some r) = Err r
+abbrev pub passed : Option Refusal → Result (Unit {0}) Refusal
+passed None = Ok tt
+passed (Some r) = Err r
 
 -- a pin that is to go where it is
 abbrev pub there : Bool → Bool → Option Refusal

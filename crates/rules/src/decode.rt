@@ -1,6 +1,6 @@
 // Events: from their two bytes, and which are refused.
 ghost use Rattle.std.specs.Prelude.{◌≡◌};
-ghost use Rattle.rules.specs.Tables.{decoded, there, refused_event, spared};
+ghost use Rattle.rules.specs.Tables.{decoded, there, refused_event, passed};
 
 use super::state::{Event, Pins};
 use backing::refusal::Refusal;
@@ -32,7 +32,7 @@ impl TryFrom<(u8, u8)> for Event {
 
 // A pin may not go where it is.
 fn moves(level: bool, goes: bool) -> Result<(), Refusal>
-    ensures { result ≡ spared (there level goes) }
+    ensures { result ≡ passed (there level goes) }
 {
     if level == goes {
         Err(Refusal::PinAlreadyThere)
@@ -43,7 +43,7 @@ fn moves(level: bool, goes: bool) -> Result<(), Refusal>
 
 // Refuses an event that may not come; `off` is the level of S.
 pub fn refuse(off: bool, pins: Pins, running: bool, event: Event) -> Result<(), Refusal>
-    ensures { result ≡ spared (refused_event off pins.clock pins.input pins.protect pins.hold running event) }
+    ensures { result ≡ passed (refused_event off pins.clock pins.input pins.protect pins.hold running event) }
 {
     match event {
         Event::Select(level) => moves(off, level),

@@ -19,12 +19,12 @@ loop-i-preserved g c =
     let page = c.args.bytes.now in
     let i = c.loop-i.i in
     let at = c.args.base in
-    elim c.match-bytes-i.branch [
+    elim c.match-byte.branch [
       | in-Some+in_ok-put w ↦ (
         ap g.B.Backing.row w.backing-is
             ∙ w.in_ok-put.ensures.row.1
-            ∙ ap (λ xs. set xs (at + i) w.in-Some.b) c.loop-i.invariant.0
-            ∙ sym (laid_some row at page i w.in-Some.b (omega arith) w.in-Some.is),
+            ∙ ap (λ xs. set xs (at + i) w.in-Some.byte) c.loop-i.invariant.0
+            ∙ sym (laid_some row at page i w.in-Some.byte (omega arith) w.in-Some.is),
         ap g.B.Backing.held w.backing-is ∙ w.in_ok-put.ensures.held ∙ c.loop-i.invariant.1,
         ap g.B.Backing.past w.backing-is ∙ w.in_ok-put.ensures.past ∙ c.loop-i.invariant.2,
       )

@@ -6,7 +6,7 @@ use Rattle.chip.proofs.places.base_of.Goals as goal
 pub returns-in-Array : goal.returns-in-Array
 returns-in-Array g c =
     let p = g.P.Part.shape in
-    let w = g.met.P.Part.lawful in
+    let w = g.P.Part.lawful in
     let e = c.array_len.ensures.value in
     let m = c.in-Array.is in
     let x = c.args.start % c.array_len.result in

@@ -6,19 +6,17 @@ use Rattle.chip.proofs.sameness.same.Goals as goal
 pub returns-then-branch : goal.returns-then-branch
 returns-then-branch g c =
     let p = g.P.Part.shape in
-    compared_same p g.met.P.Part.lawful
+    compared_same p g.P.Part.lawful
     (view_of p g.A.Backing.row c.args.a.now) (view_of p g.B.Backing.row c.args.b.now)
-    c.in_ok-making.field-0 c.in_ok-making-2.field-0
-    c.in_ok-making.ensures.value c.in_ok-making-2.ensures.value
+    c.in_ok-first.ensures.0 c.in_ok-second.ensures.0
     (search rules) (search rules) (search rules) (search rules)
     (search rules)
 
-pub returns-else-same_pins : goal.returns-else-same_pins
-returns-else-same_pins g c =
+pub returns-else-eq : goal.returns-else-eq
+returns-else-eq g c =
     let p = g.P.Part.shape in
-    compared_different p g.met.P.Part.lawful
+    compared_different p g.P.Part.lawful
     (view_of p g.A.Backing.row c.args.a.now) (view_of p g.B.Backing.row c.args.b.now)
-    c.in_ok-making.field-0 c.in_ok-making-2.field-0
-    c.in_ok-making.ensures.value c.in_ok-making-2.ensures.value
+    c.in_ok-first.ensures.0 c.in_ok-second.ensures.0
     (search rules) (search rules) (search rules) (search rules)
     (λ q. search rules)

@@ -15,7 +15,7 @@ returns-else-n-lt23 g c =
     let e : c.args.event ≡ Clock true = search rules in
     record {
       made = refl;
-      view = aims_view p v a.access a.wel a.n a.value c.push_address-more.result (ident_length c.page.result) c.aim-self.result a.is-0 c.if-n-lt23.false c.push_address-more.ensures c.page.ensures c.aim-self.ensures c.if-self.false ∙ ap (moved p v) (sym e);
+      view = aims_view p v a.access a.wel a.n a.value c.push_address-more.result (ident_length c.IDENT_PAGE.result) c.aim-self.result a.is-0 c.if-n-lt23.false c.push_address-more.ensures (ap ident_length c.IDENT_PAGE.ensures ∙ sym (ap (λ s. s.ident) g.P.Part.is_shape)) c.aim-self.ensures c.if-self.false ∙ ap (moved p v) (sym e);
       lent = refl;
       kept = record { same_held = refl; same_past = refl; same_length = refl; same_rest = refl };
     }

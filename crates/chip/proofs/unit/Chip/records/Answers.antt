@@ -1,4 +1,4 @@
-use Rattle.std.proofs.Common.{◌≡◌, ◌+◌, ◌*◌, ◌/◌, length, get_or, Ok, sym, refl, ap, ◌∙◌, arith}
+use Rattle.std.proofs.Common.{◌≡◌, ◌+◌, ◌*◌, ◌/◌, length, get_or, Ok, Err, sym, refl, ap, ◌∙◌, arith}
 use Rattle.rules.specs.Rules.{step}
 use Rattle.chip.specs.Shows.{view_of}
 use Rattle.chip.proofs.Capturing.{midway_none, midway_more, ended_refused, ended_all, kept_same, kept_on}
@@ -18,9 +18,9 @@ pub loop-i-preserved : goal.loop-i-preserved
 loop-i-preserved g c = (
   midway_more g.P.Part.shape
       (view_of g.P.Part.shape g.B.Backing.row c.args.self.now) (view_of g.P.Part.shape g.B.Backing.row c.loop-i.self) (view_of g.P.Part.shape g.B.Backing.row c.step.new.self)
-      c.args.records.now c.args.answers.now c.loop-i.answers c.loop-i.i c.number.result c.in-Ok.level
+      c.args.records.now c.args.answers.now c.loop-i.answers c.loop-i.i c.from.result c.in-Ok.level
       (step g.P.Part.shape (view_of g.P.Part.shape g.B.Backing.row c.loop-i.self) (get_or c.args.records.now (2 * c.loop-i.i) 0) (get_or c.args.records.now (2 * c.loop-i.i + 1) 0))
-      (omega arith) (omega arith) refl c.in-Ok.ensures.answer c.in-Ok.ensures.view c.number.ensures c.loop-i.invariant.0,
+      (omega arith) (omega arith) refl c.in-Ok.ensures.answer c.in-Ok.ensures.view c.from.ensures c.loop-i.invariant.0,
   c.in-Ok.ensures.lent ∙ c.loop-i.invariant.1,
   kept_on g.P.Part.shape g.B.Backing.row g.B.Backing.past g.B.Backing.held c.args.self.now.backing.now c.loop-i.self.backing.now c.step.new.self.backing.now
       c.loop-i.invariant.2 c.in-Ok.ensures.kept,
@@ -36,7 +36,7 @@ returns-in-Err g c =
     (omega arith) (omega arith) refl c.in-Err.ensures.answer c.in-Err.ensures.view c.loop-i.invariant.0 in
     record {
       view = d.view;
-      says = d.says;
+      says = ap Err c.at.ensures ∙ d.says;
       answers = d.answers;
       lent = c.in-Err.ensures.lent ∙ c.loop-i.invariant.1;
       kept =
