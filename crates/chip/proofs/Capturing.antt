@@ -1,8 +1,9 @@
 -- A capture taken record by record.
-use Rattle.std.proofs.Common.{◌≡◌, ℕ, ◌+◌, ◌*◌, ◌<◌, ◌≤◌, List, [], ◌∷◌, ◌++◌, map, length, get_or, take, drop, set, Ok, Err, Result, sym, refl, ap, ◌∙◌, append_assoc, arith}
+use Rattle.std.proofs.Common.{◌≡◌, ℕ, zero, suc, ◌+◌, ◌*◌, ◌/◌, ◌<◌, ◌≤◌, List, [], ◌∷◌, ◌++◌, map, length, get_or, take, drop, set, Ok, Err, Result, sym, refl, ap, ◌∙◌, append_assoc, zero-add, lit<, arith}
 use base.Fml.{GName}
-use Rattle.std.proofs.lemmas.List.{drop_more, drop_all, take_more_set, drop-set-lt, drop-drop, append-nil, length-take-le, length-map, take-append-drop}
-use Rattle.backing.specs.Faults.{raised}
+use Rattle.std.proofs.lemmas.List.{get_or-take, get_or-drop, drop_more, drop_all, take_more_set, drop-set-lt, drop-drop, append-nil, length-take-le, length-map, take-append-drop}
+use Rattle.std.specs.Simd.{first_chunks}
+use Rattle.backing.specs.Faults.{raised, moved_to}
 use Rattle.backing.specs.declared.fault.Fault.{Fault}
 use Rattle.rules.specs.declared.state.Level.{Level}
 use Rattle.rules.specs.Shape.{Shape}
@@ -35,6 +36,22 @@ records_then p v i k l more d e =
       | taken u ↦ with_level (seen u.shift) (records p u (i + 1) more)
       | refused r ↦ record { view = v; levels = []; says = Err (raised r i) }
     ]) e
+
+-- the two bytes of a record, where a capture is cut into records
+pair_byte : (n i k : ℕ) (xs : List ℕ) → i < n → k < 2 → get_or (get_or (first_chunks 2 n xs) i []) k 0 ≡ get_or xs (2 * i + k) 0
+pair_byte zero i k xs h lt = absurd (omega arith)
+pair_byte (suc n) zero k xs h lt = get_or-take 2 xs k 0 lt ∙ ap (λ m. get_or xs m 0) (sym (zero-add k))
+pair_byte (suc n) (suc i) k xs h lt =
+    let e : 2 + (2 * i + k) ≡ 2 * suc i + k = omega arith in
+    pair_byte n i k (drop 2 xs) (omega arith) lt ∙ get_or-drop 2 xs (2 * i + k) 0 ∙ ap (λ m. get_or xs m 0) e
+
+pub pair_step : (p : Shape) (v : View) (recs : List ℕ) (pairs : List (List ℕ)) (i : ℕ) → pairs ≡ first_chunks 2 (length recs / 2) recs → i < length recs / 2 →
+    step p v (get_or recs (2 * i) 0) (get_or recs (2 * i + 1) 0) ≡ step p v (get_or (get_or pairs i []) 0 0) (get_or (get_or pairs i []) 1 0)
+pair_step p v recs pairs i e h =
+    let z : 2 * i + 0 ≡ 2 * i = omega arith in
+    let kind : get_or recs (2 * i) 0 ≡ get_or (get_or pairs i []) 0 0 = sym (ap (λ ps. get_or (get_or ps i []) 0 0) e ∙ pair_byte (length recs / 2) i 0 recs h (lit< tt) ∙ ap (λ m. get_or recs m 0) z) in
+    let level : get_or recs (2 * i + 1) 0 ≡ get_or (get_or pairs i []) 1 0 = sym (ap (λ ps. get_or (get_or ps i []) 1 0) e ∙ pair_byte (length recs / 2) i 1 recs h (lit< tt)) in
+    ap (λ k. step p v k (get_or recs (2 * i + 1) 0)) kind ∙ ap (λ l. step p v (get_or (get_or pairs i []) 0 0) l) level
 
 -- i records are taken: what is to come gives the same chip and the same answer, its levels follow the answers so far,
 -- and the answer bytes from i on are as they were
@@ -105,7 +122,7 @@ ended p v₀ v recs old new i r h e m =
 -- a record that is refused ends a run, and so does the last record
 pub ended_refused : (p : Shape) (v₀ v v' : View) (recs old new : List ℕ) (i : ℕ) (f : Fault) (d : Done) → 2 * i + 1 < length recs → i ≤ length new
     → step p v (get_or recs (2 * i) 0) (get_or recs (2 * i + 1) 0) ≡ d → ◌≡◌ {A = Result Level Fault} (Err f) (answered d) → v' ≡ after v d
-    → Midway p v₀ v recs old new i → Ended p v₀ v' recs old new (Err (record { refusal = f.refusal; «record» = i; layer = f.layer }))
+    → Midway p v₀ v recs old new i → Ended p v₀ v' recs old new (Err (moved_to f i))
 ended_refused p v₀ v v' recs old new i f (taken u) h k e a w m =
     let z : ◌≡◌ {A = ℕ} 0 1 = cc in
     absurd (omega arith)

@@ -1,8 +1,7 @@
 -- Chips as outcomes of histories: what is equal is alike, and the other way round.
-use Rattle.std.proofs.Common.{◌≡◌, ℕ, Bool, true, false, ◌↔◌, List, take, is_ok, Some, None, Ok, Err, Option, Result, sym, refl, ap, ◌∙◌, subst, true≢false}
+use Rattle.std.proofs.Common.{◌≡◌, ℕ, Bool, true, false, ◌↔◌, List, take, Some, None, Ok, Err, Option, Result, sym, refl, ap, ◌∙◌, subst, true≢false}
 use Rattle.std.specs.Result.{result_err}
 use Rattle.backing.specs.Rows.{Bytes}
-use Rattle.backing.specs.declared.refusal.Refusal.{Refusal}
 use Rattle.backing.specs.declared.fault.Fault.{Fault}
 use Rattle.rules.specs.declared.state.Pending.{Pending}
 use Rattle.rules.specs.declared.state.Phase.{Phase}

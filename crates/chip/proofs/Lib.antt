@@ -1,6 +1,5 @@
 pub mod Arms
 pub mod Capturing
-pub mod Deliveries
 pub mod Filling
 pub mod Histories
 pub mod Laying

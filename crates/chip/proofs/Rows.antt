@@ -44,20 +44,20 @@ judged_row p row s l long es el =
     long_row p row long ∙ ap (λ x. unlawful x (get_or (cells_of p row) (lock_at p) 0)) s' ∙ ap (λ x. unlawful s x) l'
 
 -- a check that passes, and one that refuses
-pub passed_none : (o : Option Refusal) → ◌≡◌ {A = Result (Unit {0}) Refusal} (passed o) (Ok tt) → o ≡ None
+pub passed_none : (o : Option Refusal) → ◌≡◌ {A = Result (Unit {0}) Refusal} (Ok tt) (passed o) → o ≡ None
 passed_none None e = refl
 passed_none (Some r) e = absurd cc
 
-pub passed_some : (o : Option Refusal) (r : Refusal) → ◌≡◌ {A = Result (Unit {0}) Refusal} (passed o) (Err r) → o ≡ Some r
+pub passed_some : (o : Option Refusal) (r : Refusal) → ◌≡◌ {A = Result (Unit {0}) Refusal} (Err r) (passed o) → o ≡ Some r
 passed_some None r e = absurd cc
 passed_some (Some q) r e = cc
 
 pub judged_fit : (p : Shape) (row : List ℕ) (s l : ℕ) → cell_count p ≤ length row →
-    ◌≡◌ {A = Result ℕ Fault} (Ok s) (Ok (get_or (cells_of p row) (status_at p) 0)) → ◌≡◌ {A = Result ℕ Fault} (Ok l) (Ok (get_or (cells_of p row) (lock_at p) 0)) → passed (unlawful s l) ≡ Ok tt → unfit p (cells_of p row) ≡ None
+    ◌≡◌ {A = Result ℕ Fault} (Ok s) (Ok (get_or (cells_of p row) (status_at p) 0)) → ◌≡◌ {A = Result ℕ Fault} (Ok l) (Ok (get_or (cells_of p row) (lock_at p) 0)) → Ok tt ≡ passed (unlawful s l) → unfit p (cells_of p row) ≡ None
 judged_fit p row s l long es el e = judged_row p row s l long es el ∙ passed_none (unlawful s l) e
 
 pub judged_unfit : (p : Shape) (row : List ℕ) (s l : ℕ) (r : Refusal) → cell_count p ≤ length row →
-    ◌≡◌ {A = Result ℕ Fault} (Ok s) (Ok (get_or (cells_of p row) (status_at p) 0)) → ◌≡◌ {A = Result ℕ Fault} (Ok l) (Ok (get_or (cells_of p row) (lock_at p) 0)) → passed (unlawful s l) ≡ Err r → checked (unfit p (cells_of p row)) ≡ Err (raised r 0)
+    ◌≡◌ {A = Result ℕ Fault} (Ok s) (Ok (get_or (cells_of p row) (status_at p) 0)) → ◌≡◌ {A = Result ℕ Fault} (Ok l) (Ok (get_or (cells_of p row) (lock_at p) 0)) → Err r ≡ passed (unlawful s l) → checked (unfit p (cells_of p row)) ≡ Err (raised r 0)
 judged_unfit p row s l r long es el e = ap checked (judged_row p row s l long es el ∙ passed_some (unlawful s l) r e)
 
 take_over : (n : ℕ) (xs : List ℕ) (bytes : List (Option ℕ)) → take n (over xs bytes) ≡ over (take n xs) bytes

@@ -1,5 +1,5 @@
 -- What an event comes to, by what was admitted; a call by whether the chip is fit.
-use Rattle.std.proofs.Common.{◌≡◌, ℕ, Bool, List, [], Some, None, Ok, Err, Option, Result, sym, refl, ap, ◌∙◌}
+use Rattle.std.proofs.Common.{◌≡◌, ℕ, Bool, [], Some, None, Ok, Err, Option, Result, sym, refl, ap, ◌∙◌}
 use Rattle.backing.specs.Faults.{raised}
 use Rattle.backing.specs.declared.fault.Fault.{Fault}
 use Rattle.backing.specs.declared.refusal.Refusal.{Refusal}
@@ -7,7 +7,7 @@ use Rattle.rules.specs.declared.state.Event.{Event}
 use Rattle.rules.specs.declared.state.Level.{Level}
 use Rattle.rules.specs.declared.state.Pins.{Pins}
 use Rattle.rules.specs.Shape.{Shape}
-use Rattle.rules.specs.Tables.{unfit, decoded, refused_event, passed}
+use Rattle.rules.specs.Tables.{unfit, refused_event, passed}
 use Rattle.rules.specs.Rules.{View, Done, taken, refused, is_off, running, moved, refuses, unless, does, step, after, seen}
 use Rattle.rules.specs.Calls.{Call, Outcome, outcome, fit_call, one_event, event}
 use Rattle.rules.specs.Calls as calls

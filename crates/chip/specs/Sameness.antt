@@ -1,9 +1,9 @@
 -- When two chips are the same.
-use Rattle.std.specs.Prelude.{◌≡◌, ℕ, ◌<◌, Bool, true, false, not, ◌||◌, ◌↔◌, List, IfOk, None, Ok, Err, Result, slice_index}
+use Rattle.std.specs.Prelude.{◌≡◌, ℕ, Bool, true, false, not, ◌||◌, ◌↔◌, List, IfOk, None, Ok, Err, Result}
 use Rattle.std.specs.Result.{result_err}
 use Rattle.backing.specs.Rows.{Bytes}
 use Rattle.backing.specs.declared.fault.Fault.{Fault}
-use Rattle.rules.specs.Shape.{Shape, cell_count}
+use Rattle.rules.specs.Shape.{Shape}
 use Rattle.rules.specs.Tables.{unfit}
 use Rattle.rules.specs.Rules.{View, running, is_off}
 use Rattle.rules.specs.Calls.{Call}

@@ -43,13 +43,13 @@ impl<'a, P: Part, B: Backing> Chip<'a, P, B> {
         ensures lent { self.new.backing.ghost_name ≡ self.old.backing.ghost_name }
         ensures kept { Kept P.shape B.Backing.row B.Backing.past B.Backing.held self.old.backing.now self.new.backing.now }
     {
-        let count = records.len() / 2;
-        for i in 0..count {
-            match self.step(records[2 * i], records[2 * i + 1]) {
-                Ok(level) => answers[i] = u8::from(level),
+        let (pairs, _) = records.as_chunks::<2>();
+        for (i, &[kind, level]) in pairs.iter().enumerate() {
+            match self.step(kind, level) {
+                Ok(q) => answers[i] = u8::from(q),
                 Err(fault) => return Err(fault.at(i)),
             }
         }
-        Ok(count)
+        Ok(pairs.len())
     }
 }

@@ -2,7 +2,7 @@
 ghost use Rattle.std.specs.Prelude.{◌≡◌, ℕ, ◌+◌, ◌^◌, ◌<◌, ◌≤◌, length, take, drop, None, Ok, Err, MatchResult, Decides, slice_index};
 ghost use Rattle.rules.specs.Shape.{cell_count, status_at, lock_at};
 ghost use Rattle.rules.specs.Tables.{unfit, passed};
-ghost use Rattle.rules.specs.Rules.{laid, counts};
+ghost use Rattle.rules.specs.Rules.{base, laid, counts};
 ghost use Rattle.chip.specs.Shows.{cells_of};
 ghost use Rattle.chip.specs.Answers.{checked, unlawful};
 ghost use Rattle.chip.specs.Equality.{EqualCells};
@@ -13,7 +13,7 @@ use backing::fault::Fault;
 use backing::refusal::Refusal;
 use backing::row::Backing;
 use rules::page::keep;
-use rules::state::Page;
+use rules::state::{Page, Target};
 use std::marker::PhantomData;
 
 // A part's cells: the front of a backing that has them all.
@@ -49,8 +49,8 @@ impl<'c, P: Part, B: Backing> Cells<'c, P, B> {
             backing,
             part: PhantomData,
         };
-        let status = cells.status()?;
-        let lock = cells.lock()?;
+        let status = cells.first(Target::Status)?;
+        let lock = cells.first(Target::Lock)?;
         judge_cells(status, lock)?;
         Ok(cells)
     }
@@ -74,24 +74,19 @@ impl<'c, P: Part, B: Backing> Cells<'c, P, B> {
         self.backing.get(place)
     }
 
-    pub(crate) fn status(&self) -> Result<u8, Fault>
-        ensures { result ≡ Ok (slice_index (cells_of P.shape (B.Backing.row self.now.backing.now)) (status_at P.shape)) }
+    // The first byte that a write to this target may reach: the whole of the status and of the lock cell.
+    pub(crate) fn first(&self, target: Target) -> Result<u8, Fault>
+        ensures { result ≡ Ok (slice_index (cells_of P.shape (B.Backing.row self.now.backing.now)) (base P.shape target 0)) }
     {
-        self.get(places::unique_start::<P>() + 16)
-    }
-
-    pub(crate) fn lock(&self) -> Result<u8, Fault>
-        ensures { result ≡ Ok (slice_index (cells_of P.shape (B.Backing.row self.now.backing.now)) (lock_at P.shape)) }
-    {
-        self.get(places::unique_start::<P>() + 17)
+        self.get(places::base_of::<P>(target, 0))
     }
 
     // Whether a write counts, with W at this level.
     pub(crate) fn takes(&self, protect: bool, page: &Page) -> Result<bool, Fault>
         ensures { result ≡ Ok (counts P.shape protect (slice_index (cells_of P.shape (B.Backing.row self.now.backing.now)) (status_at P.shape)) (slice_index (cells_of P.shape (B.Backing.row self.now.backing.now)) (lock_at P.shape)) page.now) }
     {
-        let status = self.status()?;
-        let lock = self.lock()?;
+        let status = self.first(Target::Status)?;
+        let lock = self.first(Target::Lock)?;
         Ok(page.counts(
             places::is_open::<P>(status, page.start),
             protect,

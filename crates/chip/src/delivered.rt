@@ -9,14 +9,14 @@ const UNIQUE: usize = 4352;
 
 const STATUS: usize = 4368;
 
+const UNIQUE_ID: [u8; 16] = [0, 1, 2, 3, 4, 5, 6, 7, 8, 9, 10, 11, 12, 13, 14, 15];
+
 // FFh in array and identification page, 00h to 0Fh as unique ID, 0 in the status and the lock cell.
 pub fn deliver(cells: &mut [u8; CELLS])
     ensures { cells.new ≡ delivered }
 {
     *cells = [0xFF; CELLS];
-    for i in 0..16u8 {
-        cells[UNIQUE + i as usize] = i;
-    }
+    cells[UNIQUE..STATUS].copy_from_slice(&UNIQUE_ID);
     cells[STATUS] = 0;
     cells[STATUS + 1] = 0;
 }

@@ -11,7 +11,7 @@ use super::unit::Unit;
 use backing::fault::Fault;
 use backing::row::Backing;
 use rules::shift::status_byte;
-use rules::state::{Phase, Shift};
+use rules::state::{Phase, Shift, Target};
 
 impl Unit {
     fn deselect(&mut self)
@@ -28,7 +28,7 @@ impl Unit {
     {
         match self.stretch {
             Phase::Status(0) => {
-                let status = cells.status()?;
+                let status = cells.first(Target::Status)?;
                 Ok(status_byte(status, self.wel, self.cycle.is_some()))
             }
             Phase::Output(region, address, 0) => cells.get(places::cell_of::<P>(region, address)),
