@@ -1,5 +1,5 @@
 -- Which parts a capture has.
-use Rattle.std.specs.Prelude.{ℕ, zero, suc, ◌+◌, ◌/◌, Bool, cond, ◌&&◌, List, [], ◌∷◌, length, take, drop, ◌==◌, nat_lt}
+use Rattle.std.specs.Prelude.{ℕ, zero, suc, ◌+◌, ◌/◌, Bool, cond, ◌&&◌, List, [], ◌∷◌, length, take, drop, ◌==◌, nat_lt, slice_index}
 
 -- quiet: S is high; selected: from a fall of S to its next rise; open: selected and never raised;
 -- lone: the last byte of an odd length
@@ -18,6 +18,10 @@ pub record Part : Type 0 where
 -- kind k with level l is the record 0, level: pin S goes to that level
 abbrev pub moves : ℕ → ℕ → ℕ → Bool
 moves level k l = k == 0 && l == level
+
+-- the same of a record's two bytes
+abbrev pub is_move : ℕ → List ℕ → Bool
+is_move level r = moves level (slice_index r 0) (slice_index r 1)
 
 -- the bytes ahead of the first record that moves S to the level, or of all whole records where none does
 unfoldable pub ahead : ℕ → List ℕ → ℕ
