@@ -1,7 +1,7 @@
 -- The first part of what is left: which it is, and what may follow it.
 use Rattle.std.proofs.Common.{◌≡◌, ℕ, ◌+◌, ◌<◌, ◌≤◌, Bool, true, false, cond, ltb, List, length, get_or, take, drop, sym, refl, ap, ◌∙◌, subst, arith, ltb-false, ltb-true, le-ltb, lt-ltb}
 use Rattle.std.proofs.lemmas.List.{length-take-le, length-drop, get_or-take, take_all}
-use Rattle.stretch.specs.Parts.{Kind, Part, quiet, selected, opened, lone, moves, ahead, front}
+use Rattle.stretch.specs.Parts.{Kind, Part, quiet, selected, opened, lone, moves, ahead, front, first_part}
 use Rattle.stretch.specs.Laws.{At, Lacks, Formed, MayFollow}
 use Rattle.stretch.proofs.Scans.{passed, ahead_after}
 
@@ -155,12 +155,12 @@ front_follows xs =
     (λ h p q more. ap (λ (f : Kind × ℕ). f.0) (front_lone (drop (ahead 1 xs) xs) (omega (arith, length-drop (ahead 1 xs) xs))))
 
 -- a part with the kind and the length of the first part of what is left
-pub leads : (xs : List ℕ) (k : Kind) (m j : ℕ) → front xs ≡ (k, j) → m ≡ j → (n : ℕ) → ◌≡◌ {A = Part} (record { kind = k; first = n; bytes = take m xs }) (record { kind = (front xs).0; first = n; bytes = take (front xs).1 xs })
+pub leads : (xs : List ℕ) (k : Kind) (m j : ℕ) → front xs ≡ (k, j) → m ≡ j → (n : ℕ) → ◌≡◌ {A = Part} (record { kind = k; first = n; bytes = take m xs }) (first_part n xs)
 leads xs k m j e q n =
     ap {B = Part} (λ i. record { kind = k; first = n; bytes = take i xs }) q
     ∙ ap {B = Part} (λ (f : Kind × ℕ). record { kind = f.0; first = n; bytes = take f.1 xs }) (sym e)
 
-pub leads_lone : (xs : List ℕ) → length xs < 2 → (n : ℕ) → ◌≡◌ {A = Part} (record { kind = lone; first = n; bytes = xs }) (record { kind = (front xs).0; first = n; bytes = take (front xs).1 xs })
+pub leads_lone : (xs : List ℕ) → length xs < 2 → (n : ℕ) → ◌≡◌ {A = Part} (record { kind = lone; first = n; bytes = xs }) (first_part n xs)
 leads_lone xs h n =
     ap {B = Part} (λ ys. record { kind = lone; first = n; bytes = ys }) (sym (take_all (length xs) xs (omega arith)))
     ∙ leads xs lone (length xs) (length xs) (front_lone xs h) refl n

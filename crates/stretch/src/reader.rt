@@ -13,15 +13,16 @@ impl<'a> Stretch<'a> {
         ensures { result.now ≡ bytes_of self.entry }
     {
         match self {
-            Stretch::Quiet(bytes) => bytes,
-            Stretch::Selected(bytes) => bytes,
-            Stretch::Open(bytes) => bytes,
-            Stretch::LoneByte(bytes) => bytes,
+            Stretch::Quiet(bytes)
+            | Stretch::Selected(bytes)
+            | Stretch::Open(bytes)
+            | Stretch::LoneByte(bytes) => bytes,
         }
     }
 }
 
 // The first part of what is left.
+#[tactic(auto, using(crate::proofs::Fronts::leads, crate::proofs::Fronts::front_quiet, crate::proofs::Fronts::front_open, crate::proofs::Fronts::front_selected))]
 fn first_part<'a>(rest: &'a [u8]) -> Stretch<'a>
     ensures { Leads rest.now result }
 {

@@ -6,7 +6,9 @@ ghost use Rattle.stretch.specs.Parts.{is_move, ahead};
 fn first_move(level: u8, records: &[[u8; 2]]) -> Option<usize>
     ensures { result ≡ position (is_move level) records.now }
 {
-    records.iter().position(|&[kind, to]| kind == 0 && to == level)
+    records
+        .iter()
+        .position(|&[kind, to]| kind == 0 && to == level)
 }
 
 // The bytes ahead of the first record `0, level`, or of all whole records where none is such.
