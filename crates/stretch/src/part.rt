@@ -1,7 +1,7 @@
 // The parts of a capture, and the reader.
 
 // What S does over a part of a capture; each case holds that part's bytes.
-#[derive(Clone, Copy)]
+#[derive(Debug, Clone, Copy, PartialEq, Eq)]
 pub enum Stretch<'a> {
     Quiet(&'a [u8]),
     Selected(&'a [u8]),
@@ -10,7 +10,7 @@ pub enum Stretch<'a> {
 }
 
 // A stretch with the number of its first record.
-#[derive(Clone, Copy)]
+#[derive(Debug, Clone, Copy, PartialEq, Eq)]
 pub struct Placed<'a> {
     pub first: usize,
     pub stretch: Stretch<'a>,
