@@ -13,9 +13,6 @@ lines_more out out' all p ps qs e f h =
     ∙ ap (λ rs. out ++ flat_map line_of rs) (sym e)
     ∙ h
 
-pub count_more : (n m : ℕ) (p : Part) (ps qs : List Part) → ps ≡ p ∷ qs → n + length ps ≡ m → n + 1 + length qs ≡ m
-count_more n m p ps qs e h = omega (arith, ap length e)
-
 pub lines_all : (out out' : List ℕ) (ps : List Part) (n : ℕ) (xs : List ℕ) → ps ≡ [] → out ++ flat_map line_of ps ≡ flat_map line_of (parts xs) → n + length ps ≡ length (parts xs) → out' ≡ out ++ last_line n (length xs / 2) → out' ≡ listing_of xs
 unfolding listing_of
 lines_all out out' ps n xs e h k f =

@@ -18,6 +18,11 @@ pub record Lays (out : List ℕ) (at : ℕ) (text : List ℕ) (n : ℕ) (now : L
   pub buffer : now ≡ laid out at text
   pub wrote : n ≡ fitted out at text
 
+-- the same from the buffer's front on
+pub record Fills (out text : List ℕ) (n : ℕ) (now : List ℕ) : Type 0 where
+  pub buffer : now ≡ overlaid out text
+  pub wrote : n ≡ min (length text) (length out)
+
 -- the digits of a number, the first one first, in plain arithmetic
 pub record DigitRule (n : ℕ) (bs : List ℕ) : Type 0 where
   -- there is a digit
