@@ -31,13 +31,13 @@ fn first_part<'a>(rest: &'a [u8]) -> Stretch<'a>
     }
     let quiet = bytes_ahead(0, rest);
     if quiet > 0 {
-        return Stretch::Quiet(&rest[0..quiet]);
+        return Stretch::Quiet(&rest[..quiet]);
     }
     let raised = bytes_ahead(1, rest);
     if rest.len() - raised < 2 {
-        return Stretch::Open(&rest[0..raised]);
+        return Stretch::Open(&rest[..raised]);
     }
-    Stretch::Selected(&rest[0..raised + 2])
+    Stretch::Selected(&rest[..raised + 2])
 }
 
 impl<'a> Reader<'a> {

@@ -18,7 +18,7 @@ pub fn lay(out: &mut [u8], at: usize, text: &[u8]) -> usize
         return 0;
     }
     let n = text.len().min(out.len() - at);
-    out[at..at + n].copy_from_slice(&text[0..n]);
+    out[at..at + n].copy_from_slice(&text[..n]);
     n
 }
 
