@@ -13,6 +13,7 @@ use text::writer::Writer;
 // No line is longer.
 const LONGEST: usize = 64;
 
+// A `Display` is no plainer: a line is laid as bytes, with no formatter.
 fn word(stretch: Stretch) -> &'static [u8]
     ensures { result.now ≡ word_of (shown_as 0 stretch.entry).kind }
 {
@@ -64,13 +65,14 @@ pub fn closing(out: &mut [u8], parts: usize, records: usize) -> usize
 }
 
 // A line for each part of the capture, and the last line.
-#[tactic(auto, using(crate::proofs::Lines::pushed, crate::proofs::Runs::lines_more, crate::proofs::Runs::few))]
+#[tactic(auto, using(crate::proofs::Lines::pushed, crate::proofs::Runs::few), unfolding(crate::specs::Listing::listing_of))]
 pub fn listing(heap: Global, capture: &[u8]) -> Result<Vec<u8>, AllocError>
     ensures { IfOk result (λ v. v.items ≡ listing_of capture.now) }
 {
     let mut out = Vec::new(heap);
+    // Lines are laid into fixed memory, since `line` and `closing` serve callers with no heap too.
     let mut buffer = [0u8; LONGEST];
-    // The last line wants the count, so it outlives the loop.
+    // An `enumerate` is no plainer: its count ends with the loop, and the last line wants it.
     let mut parts: usize = 0;
     for part in Reader::new(capture) {
         let n = line(&mut buffer, part);

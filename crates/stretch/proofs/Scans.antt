@@ -1,5 +1,5 @@
 -- The search for a record that moves S: what it finds, and what it passes.
-use Rattle.std.proofs.Common.{◌≡◌, ℕ, zero, suc, ◌+◌, ◌*◌, ◌/◌, ◌<◌, ◌≤◌, Bool, true, false, not, cond, Option, List, [], ◌∷◌, length, position, get_or, drop, sym, refl, ap, ◌∙◌, subst, arith}
+use Rattle.std.proofs.Common.{◌≡◌, ℕ, zero, suc, ◌+◌, ◌*◌, ◌/◌, ◌<◌, ◌≤◌, Bool, true, false, not, cond, Option, List, [], ◌∷◌, length, position, drop, sym, refl, ap, ◌∙◌, subst, arith}
 use borrow.Author.Tests.{both_ways}
 use Rattle.std.proofs.lemmas.List.Sums.{prefix_len-le-length}
 use Rattle.std.specs.List.{position_or_len}
@@ -44,16 +44,14 @@ pub record Passed (level : ℕ) (xs : List ℕ) (n : ℕ) : Type 0 where
 at_back : (level k l : ℕ) (xs : List ℕ) (i : ℕ) → At level (k ∷ l ∷ xs) (i + 1) → At level xs i
 at_back level k l xs i h =
     let e : i + 1 + (i + 1) ≡ suc (suc (i + i)) = omega arith in
-    let f : i + 1 + (i + 1) + 1 ≡ suc (suc (i + i + 1)) = omega arith in
-    sym (ap (λ j. moves level (get_or (k ∷ l ∷ xs) j 0) (get_or (k ∷ l ∷ xs) (i + 1 + (i + 1) + 1) 0)) e
-    ∙ ap (λ j. moves level (get_or xs (i + i) 0) (get_or (k ∷ l ∷ xs) j 0)) f) ∙ h
+    let f : suc (suc (i + i)) + 1 ≡ suc (suc (i + i + 1)) = omega arith in
+    simp (e, f) at h
 
 at_on : (level k l : ℕ) (xs : List ℕ) (i : ℕ) → At level xs i → At level (k ∷ l ∷ xs) (i + 1)
 at_on level k l xs i h =
     let e : i + 1 + (i + 1) ≡ suc (suc (i + i)) = omega arith in
-    let f : i + 1 + (i + 1) + 1 ≡ suc (suc (i + i + 1)) = omega arith in
-    ap (λ j. moves level (get_or (k ∷ l ∷ xs) j 0) (get_or (k ∷ l ∷ xs) (i + 1 + (i + 1) + 1) 0)) e
-    ∙ ap (λ j. moves level (get_or xs (i + i) 0) (get_or (k ∷ l ∷ xs) j 0)) f ∙ h
+    let f : suc (suc (i + i)) + 1 ≡ suc (suc (i + i + 1)) = omega arith in
+    simp (e, f) h
 
 lacks_on : (level k l : ℕ) (xs : List ℕ) (n : ℕ) → moves level k l ≡ false → Lacks level xs n → Lacks level (k ∷ l ∷ xs) (n + 1)
 lacks_on level k l xs n e h zero small a = absurd (both_ways (moves level k l) e a)

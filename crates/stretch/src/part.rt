@@ -17,6 +17,7 @@ pub struct Placed<'a> {
 }
 
 // A capture, and how many of its bytes are handed out.
+// A slice of what is left is no plainer: a part's number would need a count beside it too.
 #[derive(Drop)]
 pub struct Reader<'a> {
     pub(crate) capture: &'a [u8],

@@ -1,9 +1,11 @@
 // A writer that lays byte strings and numbers one after another into a buffer, cut off at its end.
+// Not `write!`: it promises its text only where it answers `Ok`, and a writer never fails.
 ghost use Rattle.std.specs.Prelude.{◌≡◌, [], decimal};
 ghost use Rattle.text.specs.Writers.{Holds, Wrote};
 
 use itoa::Buffer;
 
+// No heap: the buffer is the caller's, and the place of the next byte stands beside it.
 #[derive(Drop)]
 pub struct Writer<'a> {
     pub(crate) out: &'a mut [u8],
