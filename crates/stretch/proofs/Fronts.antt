@@ -1,42 +1,28 @@
 -- The first part of what is left: which it is, and what may follow it.
-use Rattle.std.proofs.Common.{◌≡◌, ℕ, ◌+◌, ◌<◌, ◌≤◌, Bool, true, false, cond, ltb, List, length, get_or, take, drop, sym, refl, ap, ◌∙◌, subst, arith, ltb-false, ltb-true, le-ltb, lt-ltb}
+use Rattle.std.proofs.lemmas.Bool.{cases_lt}
+use Rattle.std.proofs.lemmas.Bool.Decides.{nat_tests}
+use Rattle.std.proofs.Common.{inl, inr, ◌≡◌, ℕ, ◌+◌, ◌<◌, ◌≤◌, List, length, take, drop, sym, refl, ap, ◌∙◌, subst, arith}
 use Rattle.std.proofs.lemmas.List.{length-take-le, length-drop, get_or-take, take_all}
-use Rattle.stretch.specs.Parts.{Kind, Part, quiet, selected, opened, lone, moves, ahead, front}
+use Rattle.stretch.specs.Parts.{Kind, Part, quiet, selected, opened, lone, ahead, front, first_part}
 use Rattle.stretch.specs.Laws.{At, Lacks, Formed, MayFollow}
 use Rattle.stretch.proofs.Scans.{passed, ahead_after}
 
 -- by which tests the first part is found
-at_quiet : List ℕ → Kind × ℕ
-at_quiet xs = cond (ltb (ahead 1 xs + 1) (length xs)) (selected, ahead 1 xs + 2) (opened, ahead 1 xs)
-
-at_records : List ℕ → Kind × ℕ
-at_records xs = cond (ltb 0 (ahead 0 xs)) (quiet, ahead 0 xs) (at_quiet xs)
-
-front_is : (xs : List ℕ) → front xs ≡ cond (ltb (length xs) 2) (lone, length xs) (at_records xs)
-unfolding front at_records at_quiet
-front_is xs = refl
-
-records : (xs : List ℕ) → 2 ≤ length xs → front xs ≡ at_records xs
-records xs h = front_is xs ∙ ap (λ b. cond b (lone, length xs) (at_records xs)) (le-ltb (length xs) 2 h)
-
 pub front_lone : (xs : List ℕ) → length xs < 2 → front xs ≡ (lone, length xs)
-front_lone xs h = front_is xs ∙ ap (λ b. cond b (lone, length xs) (at_records xs)) (lt-ltb (length xs) 2 h)
+unfolding front
+front_lone xs h = grind (arith, nat_tests)
 
 pub front_quiet : (xs : List ℕ) → 2 ≤ length xs → 0 < ahead 0 xs → front xs ≡ (quiet, ahead 0 xs)
-unfolding at_records
-front_quiet xs h p = records xs h ∙ ap (λ b. cond b (quiet, ahead 0 xs) (at_quiet xs)) (lt-ltb 0 (ahead 0 xs) p)
-
-falls : (xs : List ℕ) → 2 ≤ length xs → ahead 0 xs ≤ 0 → front xs ≡ at_quiet xs
-unfolding at_records
-falls xs h p = records xs h ∙ ap (λ b. cond b (quiet, ahead 0 xs) (at_quiet xs)) (le-ltb 0 (ahead 0 xs) p)
+unfolding front
+front_quiet xs h p = grind (arith, nat_tests)
 
 pub front_selected : (xs : List ℕ) → 2 ≤ length xs → ahead 0 xs ≤ 0 → ahead 1 xs + 1 < length xs → front xs ≡ (selected, ahead 1 xs + 2)
-unfolding at_quiet
-front_selected xs h p q = falls xs h p ∙ ap (λ b. cond b (selected, ahead 1 xs + 2) (opened, ahead 1 xs)) (lt-ltb (ahead 1 xs + 1) (length xs) q)
+unfolding front
+front_selected xs h p q = grind (arith, nat_tests)
 
 pub front_open : (xs : List ℕ) → 2 ≤ length xs → ahead 0 xs ≤ 0 → length xs ≤ ahead 1 xs + 1 → front xs ≡ (opened, ahead 1 xs)
-unfolding at_quiet
-front_open xs h p q = falls xs h p ∙ ap (λ b. cond b (selected, ahead 1 xs + 2) (opened, ahead 1 xs)) (le-ltb (ahead 1 xs + 1) (length xs) q)
+unfolding front
+front_open xs h p q = grind (arith, nat_tests)
 
 -- what holds of a first part in each of the four cases holds of it
 pub front_cases : (P : List ℕ → Kind × ℕ → Type 0) (xs : List ℕ)
@@ -45,19 +31,17 @@ pub front_cases : (P : List ℕ → Kind × ℕ → Type 0) (xs : List ℕ)
     → (2 ≤ length xs → ahead 0 xs ≤ 0 → ahead 1 xs + 1 < length xs → P xs (selected, ahead 1 xs + 2))
     → (2 ≤ length xs → ahead 0 xs ≤ 0 → length xs ≤ ahead 1 xs + 1 → P xs (opened, ahead 1 xs))
     → P xs (front xs)
-front_cases P xs l q s o = by_length (ltb (length xs) 2) refl
-  where
-    by_rise : (b : Bool) → ltb (ahead 1 xs + 1) (length xs) ≡ b → 2 ≤ length xs → ahead 0 xs ≤ 0 → P xs (front xs)
-    by_rise true e h p = subst (P xs) (sym (front_selected xs h p (ltb-true _ _ e))) (s h p (ltb-true _ _ e))
-    by_rise false e h p = subst (P xs) (sym (front_open xs h p (ltb-false _ _ e))) (o h p (ltb-false _ _ e))
-
-    by_fall : (b : Bool) → ltb 0 (ahead 0 xs) ≡ b → 2 ≤ length xs → P xs (front xs)
-    by_fall true e h = subst (P xs) (sym (front_quiet xs h (ltb-true _ _ e))) (q h (ltb-true _ _ e))
-    by_fall false e h = by_rise (ltb (ahead 1 xs + 1) (length xs)) refl h (ltb-false _ _ e)
-
-    by_length : (b : Bool) → ltb (length xs) 2 ≡ b → P xs (front xs)
-    by_length true e = subst (P xs) (sym (front_lone xs (ltb-true _ _ e))) (l (ltb-true _ _ e))
-    by_length false e = by_fall (ltb 0 (ahead 0 xs)) refl (ltb-false _ _ e)
+front_cases P xs l q s o =
+    elim (cases_lt (length xs) 2) [
+      | inl h ↦ subst (P xs) (sym (front_lone xs h)) (l h)
+      | inr h ↦ elim (cases_lt 0 (ahead 0 xs)) [
+        | inl p ↦ subst (P xs) (sym (front_quiet xs h p)) (q h p)
+        | inr p ↦ elim (cases_lt (ahead 1 xs + 1) (length xs)) [
+          | inl r ↦ subst (P xs) (sym (front_selected xs h p r)) (s h p r)
+          | inr r ↦ subst (P xs) (sym (front_open xs h p r)) (o h p r)
+        ]
+      ]
+    ]
 
 -- a first part is not empty, and lies within what is left
 abbrev Sized : List ℕ → Kind × ℕ → Type 0
@@ -75,14 +59,10 @@ front_sized xs =
 
 -- records of a front
 at_take : (level : ℕ) (xs : List ℕ) (n i : ℕ) → i + i + 1 < n → At level (take n xs) i → At level xs i
-at_take level xs n i h a =
-    sym (ap (λ k. moves level k (get_or (take n xs) (i + i + 1) 0)) (get_or-take n xs (i + i) 0 (omega arith))
-    ∙ ap (λ l. moves level (get_or xs (i + i) 0) l) (get_or-take n xs (i + i + 1) 0 h)) ∙ a
+at_take level xs n i h a = let h0 : i + i < n = omega arith in simp get_or-take at a
 
 at_in_take : (level : ℕ) (xs : List ℕ) (n i : ℕ) → i + i + 1 < n → At level xs i → At level (take n xs) i
-at_in_take level xs n i h a =
-    ap (λ k. moves level k (get_or (take n xs) (i + i + 1) 0)) (get_or-take n xs (i + i) 0 (omega arith))
-    ∙ ap (λ l. moves level (get_or xs (i + i) 0) l) (get_or-take n xs (i + i + 1) 0 h) ∙ a
+at_in_take level xs n i h a = let h0 : i + i < n = omega arith in simp get_or-take a
 
 lacks_take : (level : ℕ) (xs : List ℕ) (n m : ℕ) → m + m ≤ n → Lacks level xs m → Lacks level (take n xs) m
 lacks_take level xs n m h lacks i small a = lacks i small (at_take level xs n i (omega arith) a)
@@ -127,20 +107,9 @@ front_formed xs =
 abbrev BeginsQuiet : List ℕ → Kind × ℕ → Type 0
 BeginsQuiet xs f = ahead 0 xs ≡ 0 → f.0 ≡ quiet → ⊥
 
-tag : Kind → ℕ
-tag quiet = 0
-tag selected = 1
-tag opened = 2
-tag lone = 3
-
 not_quiet : (xs : List ℕ) → ahead 0 xs ≡ 0 → (front xs).0 ≡ quiet → ⊥
-unfolding tag
 not_quiet xs =
-    front_cases BeginsQuiet xs
-    (λ h e q. let z : ◌≡◌ {A = ℕ} 3 0 = ap tag q in omega arith)
-    (λ h p e q. omega arith)
-    (λ h p r e q. let z : ◌≡◌ {A = ℕ} 1 0 = ap tag q in omega arith)
-    (λ h p r e q. let z : ◌≡◌ {A = ℕ} 2 0 = ap tag q in omega arith)
+    front_cases BeginsQuiet xs (λ h e q. cc) (λ h p e q. omega arith) (λ h p r e q. cc) (λ h p r e q. cc)
 
 -- the next part may follow
 abbrev Next : List ℕ → Kind × ℕ → Type 0
@@ -155,12 +124,12 @@ front_follows xs =
     (λ h p q more. ap (λ (f : Kind × ℕ). f.0) (front_lone (drop (ahead 1 xs) xs) (omega (arith, length-drop (ahead 1 xs) xs))))
 
 -- a part with the kind and the length of the first part of what is left
-pub leads : (xs : List ℕ) (k : Kind) (m j : ℕ) → front xs ≡ (k, j) → m ≡ j → (n : ℕ) → ◌≡◌ {A = Part} (record { kind = k; first = n; bytes = take m xs }) (record { kind = (front xs).0; first = n; bytes = take (front xs).1 xs })
+pub leads : (xs : List ℕ) (k : Kind) (m j : ℕ) → front xs ≡ (k, j) → m ≡ j → (n : ℕ) → ◌≡◌ {A = Part} (record { kind = k; first = n; bytes = take m xs }) (first_part n xs)
 leads xs k m j e q n =
     ap {B = Part} (λ i. record { kind = k; first = n; bytes = take i xs }) q
     ∙ ap {B = Part} (λ (f : Kind × ℕ). record { kind = f.0; first = n; bytes = take f.1 xs }) (sym e)
 
-pub leads_lone : (xs : List ℕ) → length xs < 2 → (n : ℕ) → ◌≡◌ {A = Part} (record { kind = lone; first = n; bytes = xs }) (record { kind = (front xs).0; first = n; bytes = take (front xs).1 xs })
+pub leads_lone : (xs : List ℕ) → length xs < 2 → (n : ℕ) → ◌≡◌ {A = Part} (record { kind = lone; first = n; bytes = xs }) (first_part n xs)
 leads_lone xs h n =
     ap {B = Part} (λ ys. record { kind = lone; first = n; bytes = ys }) (sym (take_all (length xs) xs (omega arith)))
     ∙ leads xs lone (length xs) (length xs) (front_lone xs h) refl n

@@ -1,35 +1,37 @@
--- The search for a record that moves S: one step of it, and what it passes.
-use Rattle.std.proofs.Common.{◌≡◌, ℕ, zero, suc, ◌+◌, ◌<◌, ◌≤◌, Bool, true, false, cond, List, [], ◌∷◌, length, get_or, drop, sym, refl, ap, ◌∙◌, subst, arith}
+-- The search for a record that moves S: what it finds, and what it passes.
+use Rattle.std.proofs.Common.{◌≡◌, ℕ, zero, suc, ◌+◌, ◌*◌, ◌/◌, ◌<◌, ◌≤◌, Bool, true, false, not, cond, Option, List, [], ◌∷◌, length, position, drop, sym, refl, ap, ◌∙◌, subst, arith}
 use borrow.Author.Tests.{both_ways}
-use Rattle.std.proofs.lemmas.List.{drop_more, length-drop}
-use Rattle.stretch.specs.Parts.{ahead, moves}
+use Rattle.std.proofs.lemmas.List.Sums.{prefix_len-le-length}
+use Rattle.std.specs.List.{position_or_len}
+use Rattle.std.specs.Option.{unwrap_or}
+use Rattle.std.specs.Simd.{first_chunks}
+use Rattle.stretch.specs.Parts.{ahead, moves, is_move}
 use Rattle.stretch.specs.Laws.{At, Lacks}
 
--- the two bytes at a place, and what follows them
-pub drop_two : (xs : List ℕ) (i : ℕ) → i + 1 < length xs → drop i xs ≡ get_or xs i 0 ∷ get_or xs (i + 1) 0 ∷ drop (i + 2) xs
-drop_two xs i h =
-    let e : i + 1 + 1 ≡ i + 2 = omega arith in
-    drop_more xs i 0 (omega arith)
-    ∙ ap (λ ys. get_or xs i 0 ∷ ys) (drop_more xs (i + 1) 0 h ∙ ap (λ j. get_or xs (i + 1) 0 ∷ drop j xs) e)
+-- one record more in front of those that were counted
+one_more : (b : Bool) (m n : ℕ) → m ≡ 2 * n → cond b 0 (2 + m) ≡ 2 * cond (not b) (1 + n) 0
+one_more true m n e = refl
+one_more false m n e = omega arith
 
-at_two : (level : ℕ) (xs : List ℕ) (i : ℕ) → i + 1 < length xs → ahead level (drop i xs) ≡ cond (moves level (get_or xs i 0) (get_or xs (i + 1) 0)) 0 (2 + ahead level (drop (i + 2) xs))
+-- the whole records ahead of the first that moves S to the level
+ahead_records : (level n : ℕ) (xs : List ℕ) → n + n ≤ length xs → length xs ≤ n + n + 1 → ahead level xs ≡ 2 * position_or_len (is_move level) (first_chunks 2 n xs)
 unfolding ahead
-at_two level xs i h = ap (ahead level) (drop_two xs i h)
+ahead_records level zero [] h k = refl
+ahead_records level zero (x ∷ []) h k = refl
+ahead_records level zero (x ∷ y ∷ xs) h k = absurd (omega arith)
+ahead_records level (suc n) [] h k = absurd (omega arith)
+ahead_records level (suc n) (x ∷ []) h k = absurd (omega arith)
+ahead_records level (suc n) (x ∷ y ∷ xs) h k =
+    one_more (moves level x y) _ _ (ahead_records level n xs (omega arith) (omega arith))
 
-pub ahead_found : (level : ℕ) (xs : List ℕ) (i : ℕ) → i + 1 < length xs → moves level (get_or xs i 0) (get_or xs (i + 1) 0) ≡ true → ahead level (drop i xs) ≡ 0
-ahead_found level xs i h e = at_two level xs i h ∙ ap (λ b. cond b 0 (2 + ahead level (drop (i + 2) xs))) e
+-- the place of the first that passes, or else the length
+position_else : {X : Type 0} (p : X → Bool) (xs : List X) → unwrap_or (position p xs) (length xs) ≡ position_or_len p xs
+position_else p xs = grind (arith, prefix_len-le-length)
 
-pub ahead_passed : (level : ℕ) (xs : List ℕ) (i : ℕ) → i + 1 < length xs → moves level (get_or xs i 0) (get_or xs (i + 1) 0) ≡ false → ahead level (drop i xs) ≡ 2 + ahead level (drop (i + 2) xs)
-ahead_passed level xs i h e = at_two level xs i h ∙ ap (λ b. cond b 0 (2 + ahead level (drop (i + 2) xs))) e
-
-ahead_short : (level : ℕ) (ys : List ℕ) → length ys ≤ 1 → ahead level ys ≡ 0
-unfolding ahead
-ahead_short level [] h = refl
-ahead_short level (y ∷ []) h = refl
-ahead_short level (y ∷ z ∷ ys) h = absurd (omega arith)
-
-pub ahead_end : (level : ℕ) (xs : List ℕ) (i : ℕ) → length xs ≤ i + 1 → ahead level (drop i xs) ≡ 0
-ahead_end level xs i h = ahead_short level (drop i xs) (omega (arith, length-drop i xs))
+pub ahead_found : (level : ℕ) (xs : List ℕ) (rs : List (List ℕ)) (o : Option ℕ) (n : ℕ) → rs ≡ first_chunks 2 (length xs / 2) xs → o ≡ position (is_move level) rs → n ≡ unwrap_or o (length rs) → 2 * n ≡ ahead level xs
+ahead_found level xs rs o n e f g =
+    ap (λ m. 2 * m) (g ∙ ap (λ o. unwrap_or o (length rs)) f ∙ position_else (is_move level) rs ∙ ap (position_or_len (is_move level)) e)
+    ∙ sym (ahead_records level (length xs / 2) xs (omega arith) (omega arith))
 
 -- what a search from the front comes to: n records are passed, and the next one, if there is one, moves S to the level
 pub record Passed (level : ℕ) (xs : List ℕ) (n : ℕ) : Type 0 where
@@ -42,16 +44,14 @@ pub record Passed (level : ℕ) (xs : List ℕ) (n : ℕ) : Type 0 where
 at_back : (level k l : ℕ) (xs : List ℕ) (i : ℕ) → At level (k ∷ l ∷ xs) (i + 1) → At level xs i
 at_back level k l xs i h =
     let e : i + 1 + (i + 1) ≡ suc (suc (i + i)) = omega arith in
-    let f : i + 1 + (i + 1) + 1 ≡ suc (suc (i + i + 1)) = omega arith in
-    sym (ap (λ j. moves level (get_or (k ∷ l ∷ xs) j 0) (get_or (k ∷ l ∷ xs) (i + 1 + (i + 1) + 1) 0)) e
-    ∙ ap (λ j. moves level (get_or xs (i + i) 0) (get_or (k ∷ l ∷ xs) j 0)) f) ∙ h
+    let f : suc (suc (i + i)) + 1 ≡ suc (suc (i + i + 1)) = omega arith in
+    simp (e, f) at h
 
 at_on : (level k l : ℕ) (xs : List ℕ) (i : ℕ) → At level xs i → At level (k ∷ l ∷ xs) (i + 1)
 at_on level k l xs i h =
     let e : i + 1 + (i + 1) ≡ suc (suc (i + i)) = omega arith in
-    let f : i + 1 + (i + 1) + 1 ≡ suc (suc (i + i + 1)) = omega arith in
-    ap (λ j. moves level (get_or (k ∷ l ∷ xs) j 0) (get_or (k ∷ l ∷ xs) (i + 1 + (i + 1) + 1) 0)) e
-    ∙ ap (λ j. moves level (get_or xs (i + i) 0) (get_or (k ∷ l ∷ xs) j 0)) f ∙ h
+    let f : suc (suc (i + i)) + 1 ≡ suc (suc (i + i + 1)) = omega arith in
+    simp (e, f) h
 
 lacks_on : (level k l : ℕ) (xs : List ℕ) (n : ℕ) → moves level k l ≡ false → Lacks level xs n → Lacks level (k ∷ l ∷ xs) (n + 1)
 lacks_on level k l xs n e h zero small a = absurd (both_ways (moves level k l) e a)

@@ -1,5 +1,5 @@
 -- Which parts a capture has.
-use Rattle.std.specs.Prelude.{ℕ, zero, suc, ◌+◌, ◌/◌, Bool, cond, ◌&&◌, List, [], ◌∷◌, length, take, drop, ◌==◌, nat_lt}
+use Rattle.std.specs.Prelude.{ℕ, zero, suc, ◌+◌, ◌/◌, Bool, cond, ◌&&◌, List, [], ◌∷◌, length, take, drop, ◌==◌, nat_lt, slice_index}
 
 -- quiet: S is high; selected: from a fall of S to its next rise; open: selected and never raised;
 -- lone: the last byte of an odd length
@@ -19,6 +19,10 @@ pub record Part : Type 0 where
 abbrev pub moves : ℕ → ℕ → ℕ → Bool
 moves level k l = k == 0 && l == level
 
+-- the same of a record's two bytes
+abbrev pub is_move : ℕ → List ℕ → Bool
+is_move level r = moves level (slice_index r 0) (slice_index r 1)
+
 -- the bytes ahead of the first record that moves S to the level, or of all whole records where none does
 unfoldable pub ahead : ℕ → List ℕ → ℕ
 ahead level [] = 0
@@ -33,12 +37,16 @@ front xs =
     (cond (nat_lt 0 (ahead 0 xs)) (quiet, ahead 0 xs)
     (cond (nat_lt (ahead 1 xs + 1) (length xs)) (selected, ahead 1 xs + 2) (opened, ahead 1 xs)))
 
+-- the first part of what is left, under a number
+abbrev pub first_part : ℕ → List ℕ → Part
+first_part n xs = record { kind = (front xs).0; first = n; bytes = take (front xs).1 xs }
+
 -- the parts of what is left from byte place on, of which there are at most so many
 unfoldable pub parts_in : ℕ → ℕ → List ℕ → List Part
 parts_in zero place xs = []
 parts_in (suc most) place [] = []
 parts_in (suc most) place (x ∷ xs) =
-    record { kind = (front (x ∷ xs)).0; first = place / 2; bytes = take (front (x ∷ xs)).1 (x ∷ xs) }
+    first_part (place / 2) (x ∷ xs)
     ∷ parts_in most (place + (front (x ∷ xs)).1) (drop (front (x ∷ xs)).1 (x ∷ xs))
 
 -- the parts of what is left of a capture from a byte place on: no part is empty, so there are at most as many as bytes

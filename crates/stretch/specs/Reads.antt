@@ -1,6 +1,6 @@
 -- What a reader has still to hand out.
-use Rattle.std.specs.Prelude.{◌≡◌, ℕ, ◌-◌, List, [], ◌∷◌, length, take, drop, Option, MatchOption}
-use Rattle.stretch.specs.Parts.{Part, quiet, selected, opened, lone, front, parts_from}
+use Rattle.std.specs.Prelude.{◌≡◌, ℕ, ◌-◌, List, [], ◌∷◌, length, drop, Option, MatchOption}
+use Rattle.stretch.specs.Parts.{Part, quiet, selected, opened, lone, first_part, parts_from}
 use Rattle.stretch.specs.declared.part.Stretch.{Stretch}
 use Rattle.stretch.specs.declared.part.Stretch.TheVariants.{Quiet, Selected, Open, LoneByte}
 use Rattle.stretch.specs.declared.part.Placed.{Placed}
@@ -24,7 +24,7 @@ bytes_of (LoneByte s) = s.now
 
 -- a stretch is the first part of what is left, under any number
 abbrev pub Leads : List ℕ → Stretch → Type 0
-Leads xs s = (n : ℕ) → shown_as n s ≡ record { kind = (front xs).0; first = n; bytes = take (front xs).1 xs }
+Leads xs s = (n : ℕ) → shown_as n s ≡ first_part n xs
 
 -- the parts to come
 abbrev pub coming : Reader → List Part

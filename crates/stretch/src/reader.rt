@@ -13,15 +13,16 @@ impl<'a> Stretch<'a> {
         ensures { result.now ≡ bytes_of self.entry }
     {
         match self {
-            Stretch::Quiet(bytes) => bytes,
-            Stretch::Selected(bytes) => bytes,
-            Stretch::Open(bytes) => bytes,
-            Stretch::LoneByte(bytes) => bytes,
+            Stretch::Quiet(bytes)
+            | Stretch::Selected(bytes)
+            | Stretch::Open(bytes)
+            | Stretch::LoneByte(bytes) => bytes,
         }
     }
 }
 
 // The first part of what is left.
+#[tactic(auto, using(crate::proofs::Fronts::leads, crate::proofs::Fronts::front_quiet, crate::proofs::Fronts::front_open, crate::proofs::Fronts::front_selected))]
 fn first_part<'a>(rest: &'a [u8]) -> Stretch<'a>
     ensures { Leads rest.now result }
 {
@@ -30,13 +31,13 @@ fn first_part<'a>(rest: &'a [u8]) -> Stretch<'a>
     }
     let quiet = bytes_ahead(0, rest);
     if quiet > 0 {
-        return Stretch::Quiet(&rest[0..quiet]);
+        return Stretch::Quiet(&rest[..quiet]);
     }
     let raised = bytes_ahead(1, rest);
     if rest.len() - raised < 2 {
-        return Stretch::Open(&rest[0..raised]);
+        return Stretch::Open(&rest[..raised]);
     }
-    Stretch::Selected(&rest[0..raised + 2])
+    Stretch::Selected(&rest[..raised + 2])
 }
 
 impl<'a> Reader<'a> {

@@ -4,14 +4,10 @@
 use listing::listing;
 use std::io::{Read, Write};
 
-fn run(rt: &HostRuntime) -> anyhow::Result<()> {
+fn main(rt: HostRuntime) -> anyhow::Result<()> {
     let mut capture = Vec::new(rt.alloc());
     rt.stdin().read_to_end(&mut capture)?;
     let text = listing(rt.alloc(), capture.as_slice())?;
     rt.stdout().write_all(text.as_slice())?;
     Ok(())
-}
-
-fn main(rt: HostRuntime) -> anyhow::Result<()> {
-    run(&rt)
 }

@@ -1,9 +1,9 @@
 -- The digits of a number in decimal.
-use Rattle.std.proofs.Common.{◌≡◌, ℕ, ◌+◌, ◌-◌, ◌*◌, ◌/◌, ◌%◌, ◌^◌, ◌<◌, ◌≤◌, List, [], ◌∷◌, ◌++◌, length, get_or, drop, set, decimal, sym, refl, ap, ◌∙◌, inl, inr, mod-eq_of_lt, pow-suc, div-one, add-one, arith}
+use Rattle.std.proofs.Common.{◌≡◌, ℕ, ◌+◌, ◌-◌, ◌*◌, ◌/◌, ◌%◌, ◌^◌, ◌<◌, ◌≤◌, List, [], ◌∷◌, ◌++◌, length, get_or, decimal, sym, refl, ap, ◌∙◌, inl, inr, mod-eq_of_lt, pow-suc, div-one, add-one, arith}
 use native.Mathlib.Nat.{pow-succ', div-div-eq-div-mul}
-use Rattle.std.proofs.lemmas.Fmt.{decimal_by_steps, decimal_step, decimal_digit, length-decimal-le}
+use Rattle.std.proofs.lemmas.Fmt.{decimal_by_steps}
 use Rattle.std.proofs.lemmas.Bool.{cases_lt}
-use Rattle.std.proofs.lemmas.List.{length_push, get_or_append_left, get_or_push, drop-set, append_assoc}
+use Rattle.std.proofs.lemmas.List.{length_push, get_or_append_left, get_or_push}
 use Rattle.text.specs.Text.{DigitRule}
 
 -- a place more is ten times as much
@@ -52,20 +52,3 @@ rule_more n ds h d =
 -- what `decimal` writes goes by the rule
 pub decimal_rule : (n : ℕ) → n < 2 ^ 64 → DigitRule n (decimal n)
 decimal_rule n h = decimal_by_steps DigitRule rule_one rule_more n h
-
--- a number of 64 bits has twenty digits at most
-pub length_decimal : (n : ℕ) → n < 2 ^ 64 → length (decimal n) ≤ 20
-length_decimal n h = length-decimal-le 20 n (omega arith) (omega arith) h
-
-pub length_decimal_step : (m : ℕ) → 10 ≤ m → m < 2 ^ 64 → length (decimal m) ≡ length (decimal (m / 10)) + 1
-length_decimal_step m h f = ap length (decimal_step m h f) ∙ length_push (decimal (m / 10)) (48 + m % 10)
-
--- one digit more in front of those that stand
-pub spelled_more : (n m : ℕ) (ds : List ℕ) (s k : ℕ) → s ≡ k + 1 → 10 ≤ m → m < 2 ^ 64 → k < length ds → decimal n ≡ decimal m ++ drop s ds → decimal n ≡ decimal (m / 10) ++ drop k (set ds k (48 + m % 10))
-spelled_more n m ds s k z h f l e =
-    e ∙ ap (λ i. decimal m ++ drop i ds) z ∙ ap (λ xs. xs ++ drop (k + 1) ds) (decimal_step m h f) ∙ append_assoc (decimal (m / 10)) _ _ ∙ ap (λ xs. decimal (m / 10) ++ xs) (sym (drop-set ds k (48 + m % 10) l))
-
--- the first digit, in front of all
-pub spelled_all : (n m : ℕ) (ds : List ℕ) (s k : ℕ) → s ≡ k + 1 → m < 10 → k < length ds → decimal n ≡ decimal m ++ drop s ds → drop k (set ds k (48 + m)) ≡ decimal n
-spelled_all n m ds s k z h l e =
-    drop-set ds k (48 + m) l ∙ sym (e ∙ ap (λ i. decimal m ++ drop i ds) z ∙ ap (λ xs. xs ++ drop (k + 1) ds) (decimal_digit m h))

@@ -13,6 +13,16 @@ laid out at text = take at out ++ overlaid (drop at out) text
 abbrev pub fitted : List ℕ → ℕ → List ℕ → ℕ
 fitted out at text = min (length text) (length out - at)
 
+-- a text laid from a place on: what the buffer holds then, and how many bytes were written
+pub record Lays (out : List ℕ) (at : ℕ) (text : List ℕ) (n : ℕ) (now : List ℕ) : Type 0 where
+  pub buffer : now ≡ laid out at text
+  pub wrote : n ≡ fitted out at text
+
+-- the same from the buffer's front on
+pub record Fills (out text : List ℕ) (n : ℕ) (now : List ℕ) : Type 0 where
+  pub buffer : now ≡ overlaid out text
+  pub wrote : n ≡ min (length text) (length out)
+
 -- the digits of a number, the first one first, in plain arithmetic
 pub record DigitRule (n : ℕ) (bs : List ℕ) : Type 0 where
   -- there is a digit

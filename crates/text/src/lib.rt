@@ -1,51 +1,35 @@
 // Text laid into a buffer of the caller's: byte strings and decimal numbers, cut off at the buffer's end.
 #![tactic(auto)]
 
-ghost use Rattle.std.specs.Prelude.{◌≡◌, ◌<◌, ◌≤◌, length, drop, decimal};
-ghost use Rattle.text.specs.Text.{overlaid, laid, fitted, DigitRule};
+ghost use Rattle.std.specs.Prelude.{◌≡◌, ◌≤◌, length, decimal};
+ghost use Rattle.text.specs.Text.{Lays, DigitRule};
 
 pub mod writer;
 
+use itoa::Buffer;
+
 // Lays the text from the place `at` on, and answers how many bytes it wrote.
+#[tactic(auto, using(crate::proofs::Laying::laid_cut, crate::proofs::Laying::laid_past))]
 pub fn lay(out: &mut [u8], at: usize, text: &[u8]) -> usize
-    ensures buffer { out.new ≡ laid out.old at text.now }
-    ensures wrote { result ≡ fitted out.old at text.now }
+    ensures lays { Lays out.old at text.now result out.new }
     ensures past { length out.old ≤ at → out.new ≡ out.old }
 {
     if at >= out.len() {
         return 0;
     }
     let n = text.len().min(out.len() - at);
-    out[at..at + n].copy_from_slice(&text[0..n]);
+    out[at..at + n].copy_from_slice(&text[..n]);
     n
 }
 
-// The digits of `n` at the end of `digits`: answers where they begin.
-fn spell(digits: &mut [u8; 20], n: usize) -> usize
-    ensures within { result < 20 }
-    ensures spelled { drop result digits.new ≡ decimal n }
-{
-    let mut start = 20;
-    let mut rest = n;
-    while rest >= 10 {
-        start -= 1;
-        digits[start] = b'0' + (rest % 10) as u8;
-        rest /= 10;
-    }
-    start -= 1;
-    digits[start] = b'0' + rest as u8;
-    start
-}
-
 // Lays `n` in decimal from the place `at` on; where it is cut off, its first digits stay.
+#[tactic(auto, using(crate::proofs::Spelling::decimal_rule))]
 pub fn decimal(out: &mut [u8], at: usize, n: usize) -> usize
-    ensures buffer { out.new ≡ laid out.old at (decimal n) }
-    ensures wrote { result ≡ fitted out.old at (decimal n) }
+    ensures lays { Lays out.old at (decimal n) result out.new }
     ensures rule { DigitRule n (decimal n) }
 {
-    let mut digits = [b'0'; 20];
-    let start = spell(&mut digits, n);
-    lay(out, at, &digits[start..])
+    let mut digits = Buffer::new();
+    lay(out, at, digits.format(n).as_bytes())
 }
 
 #[cfg(test)]

@@ -1,8 +1,11 @@
 // A writer that lays byte strings and numbers one after another into a buffer, cut off at its end.
-ghost use Rattle.std.specs.Prelude.{◌≡◌, ℕ, ◌+◌, List, [], ◌++◌, decimal};
-ghost use Rattle.text.specs.Text.{laid, fitted};
-ghost use Rattle.text.specs.Writers.{Holds};
+// Not `write!`: it promises its text only where it answers `Ok`, and a writer never fails.
+ghost use Rattle.std.specs.Prelude.{◌≡◌, [], decimal};
+ghost use Rattle.text.specs.Writers.{Holds, Wrote};
 
+use itoa::Buffer;
+
+// No heap: the buffer is the caller's, and the place of the next byte stands beside it.
 #[derive(Drop)]
 pub struct Writer<'a> {
     pub(crate) out: &'a mut [u8],
@@ -10,6 +13,7 @@ pub struct Writer<'a> {
 }
 
 impl<'a> Writer<'a> {
+    #[tactic(auto, using(crate::proofs::Laying::overlaid_none))]
     pub fn new(out: &'a mut [u8]) -> Writer<'a>
         ensures holds { Holds out.old [] result }
         ensures kept { result.out.ghost_name ≡ out.entry.ghost_name }
@@ -18,23 +22,16 @@ impl<'a> Writer<'a> {
     }
 
     pub fn bytes(&mut self, text: &[u8])
-        ensures buffer { self.new.out.now ≡ laid self.old.out.now self.old.at text.now }
-        ensures place { self.new.at ≡ self.old.at + fitted self.old.out.now self.old.at text.now }
-        ensures kept { self.new.out.ghost_name ≡ self.old.out.ghost_name }
-        ensures holds { (b t : List ℕ) → Holds b t self.old → Holds b (t ++ text.now) self.new }
+        ensures { Wrote self.old text.now self.new }
     {
         let Writer { out, at } = self;
         *at += crate::lay(out, *at, text);
     }
 
     pub fn number(&mut self, n: usize)
-        ensures buffer { self.new.out.now ≡ laid self.old.out.now self.old.at (decimal n) }
-        ensures place { self.new.at ≡ self.old.at + fitted self.old.out.now self.old.at (decimal n) }
-        ensures kept { self.new.out.ghost_name ≡ self.old.out.ghost_name }
-        ensures holds { (b t : List ℕ) → Holds b t self.old → Holds b (t ++ decimal n) self.new }
+        ensures { Wrote self.old (decimal n) self.new }
     {
-        let Writer { out, at } = self;
-        *at += crate::decimal(out, *at, n);
+        self.bytes(Buffer::new().format(n).as_bytes());
     }
 
     // How many bytes it wrote so far.
