@@ -18,7 +18,7 @@ use Rattle.rules.specs.declared.state.Got.{Got}
 use Rattle.rules.specs.declared.state.Got.TheVariants.{Nothing, One, More}
 use Rattle.rules.specs.declared.state.Page.{Page}
 use Rattle.rules.specs.declared.state.Phase.{Phase}
-use Rattle.rules.specs.declared.state.Phase.TheVariants.{Deselected, Instruction as Instructing, Ignored, Enable, Disable, Status, Address, Output, Input}
+use Rattle.rules.specs.declared.state.Phase.TheVariants.{Ignored, Enable, Disable, Status, Address, Output, Input}
 use Rattle.rules.specs.Shape.{Shape, Lawful, ident_at, status_at, lock_at}
 use Rattle.rules.specs.Tables.{to_number, kept, a10, page_open, status_open, ident_open, locks, page_of}
 use Rattle.rules.specs.Rules.{pushed, pushed_address, rolled, empty, begun, aimed, one_more, latched, some_byte, one_byte, head_byte, base, reach, allowed, counts, put_bytes}
@@ -31,15 +31,10 @@ goes_on ident ph (b ∷ bs) = goes_on ident (latched ident false false b ph) bs
 
 -- what the rules list when s rises in a phase
 abbrev pub entry : Shape → Bool → (st lk : ℕ) → Phase → List Entry
-entry p w st lk Deselected = []
-entry p w st lk (Instructing n v) = []
-entry p w st lk Ignored = []
 entry p w st lk Enable = wren_done ∷ []
 entry p w st lk Disable = wrdi_done ∷ []
-entry p w st lk (Status k) = []
-entry p w st lk (Address a was n v) = []
-entry p w st lk (Output r a k) = []
 entry p w st lk (Input g) = if_so (counts p w st lk g) (wrote (base p g.target g.start) (take (reach p g.target) (put_bytes g.target g.bytes)))
+entry p w st lk ph = []
 
 pub goes_on_push : (ident : ℕ) (ph : Phase) (bs : List Bool) (b : Bool) → goes_on ident ph (bs ++ (b ∷ [])) ≡ latched ident false false b (goes_on ident ph bs)
 goes_on_push ident ph [] b = refl

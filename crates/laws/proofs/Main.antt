@@ -1,5 +1,5 @@
 -- The laws over whole runs.
-use Rattle.std.proofs.Common.{◌≡◌, ℕ, suc, ◌+◌, ◌-◌, ◌*◌, ◌/◌, ◌%◌, ◌<◌, ◌≤◌, min, true, false, ltb, List, [], ◌∷◌, ◌++◌, length, get_or, take, drop, Some, None, Ok, Err, Option, Result, sym, refl, ap, ◌∙◌, subst, inl, inr, arith, lit<, length-take}
+use Rattle.std.proofs.Common.{◌≡◌, ℕ, suc, ◌+◌, ◌*◌, ◌/◌, ◌%◌, ◌<◌, ◌≤◌, true, false, ltb, List, [], ◌∷◌, ◌++◌, length, get_or, take, drop, Some, None, Ok, Err, Option, sym, refl, ap, ◌∙◌, subst, inl, inr, arith, lit<, length-take}
 use Rattle.std.proofs.lemmas.Bool.{eq-eqb, le-ltb, cases_lt, both_ways}
 use Rattle.std.proofs.lemmas.List.{get_or-take, get_or_past, ext_get_or, length-append, length-drop, length-take-le, drop_all, drop_at}
 use Rattle.backing.specs.Faults.{raised}
@@ -7,7 +7,6 @@ use Rattle.backing.specs.Rows.{Bytes}
 use Rattle.backing.specs.declared.refusal.Refusal.{Refusal}
 use Rattle.backing.specs.declared.refusal.Refusal.TheVariants.{OddLength, ShortAnswers}
 use Rattle.backing.specs.declared.fault.Fault.{Fault}
-use Rattle.rules.specs.declared.state.Level.{Level}
 use Rattle.rules.specs.declared.state.Phase.TheVariants.{Deselected}
 use Rattle.rules.specs.Shape.{Shape, Lawful, cell_count}
 use Rattle.rules.specs.Tables.{named, unfit, refused_capture, refused_copy}
@@ -62,32 +61,24 @@ answers_stand p lw birth h xs = by (unfit p (take (cell_count p) birth)) refl
 
 -- a row whose front has as many cells as at birth
 row_length : (p : Shape) (birth cells : List ℕ) → length cells ≡ length (take (cell_count p) birth) → length (cells ++ drop (cell_count p) birth) ≡ length birth
-row_length p birth cells e =
-    length-append cells (drop (cell_count p) birth)
-    ∙ sum (length cells) (length (take (cell_count p) birth)) (cell_count p) (length birth) (length (drop (cell_count p) birth)) e (length-take (cell_count p) birth) (length-drop (cell_count p) birth)
-  where
-    sum : (a b n m d : ℕ) → a ≡ b → b ≡ min n m → d ≡ m - n → a + d ≡ m
-    sum a b n m d e f g = omega arith
+row_length p birth cells e = omega (arith, length-append cells (drop (cell_count p) birth), length-take (cell_count p) birth, length-drop (cell_count p) birth)
 
 row_past : (p : Shape) (birth cells : List ℕ) → length cells ≡ length (take (cell_count p) birth) → drop (cell_count p) (cells ++ drop (cell_count p) birth) ≡ drop (cell_count p) birth
 row_past p birth cells e =
     elim (cases_lt (length birth) (cell_count p)) [
       | inl short ↦
-          drop_all (cell_count p) (cells ++ drop (cell_count p) birth) (under (length (cells ++ drop (cell_count p) birth)) (length birth) (cell_count p) (row_length p birth cells e) short)
-          ∙ sym (drop_all (cell_count p) birth (omega arith))
+          let len = row_length p birth cells e in
+          drop_all (cell_count p) (cells ++ drop (cell_count p) birth) (omega arith) ∙ sym (drop_all (cell_count p) birth (omega arith))
       | inr long ↦ drop_at cells (drop (cell_count p) birth) (cell_count p) (e ∙ length-take-le (cell_count p) birth long)
     ]
-  where
-    under : (a b n : ℕ) → a ≡ b → b < n → a ≤ n
-    under a b n e h = omega arith
 
 fit_cells : (p : Shape) (birth : List ℕ) → unfit p (take (cell_count p) birth) ≡ None → (j : Journal) (v : View) → Stands p birth j v → Cells p birth v j
 fit_cells p birth fit j v s = by s.tie (stays_fit p birth j v fit s)
   where
     by : {j : Journal} {v : View} → Tracks p birth j v → unfit p v.cells ≡ None → Cells p birth v j
-    by (tracks ft m) f =
+    by (tracks {cells = cells} ft m) f =
         let long : cell_count p ≤ length (take (cell_count p) birth) = fit_length p (take (cell_count p) birth) fit in
-        let count = m.len_is ∙ whole (cell_count p) (length birth) (length (take (cell_count p) birth)) (length-take (cell_count p) birth) long in
+        let count : length cells ≡ length (take (cell_count p) birth) = omega (arith, length-take (cell_count p) birth) in
         record {
           count = count;
           len = row_length p birth _ count;
@@ -95,16 +86,10 @@ fit_cells p birth fit j v s = by s.tie (stays_fit p birth j v fit s)
           bytes = λ i h. m.now_is i (subst (λ n. i < n) m.len_is h);
           fitness = f ∙ sym fit;
         }
-      where
-        whole : (a b c : ℕ) → c ≡ min a b → a ≤ c → a ≡ c
-        whole a b c e h = omega arith
 
 born_cells : (p : Shape) (birth : List ℕ) → Cells p birth (born p birth) blank
 born_cells p birth =
-    record { count = refl; len = row_length p birth (take (cell_count p) birth) refl; past = row_past p birth (take (cell_count p) birth) refl; bytes = λ i h. get_or-take (cell_count p) birth i 0 (under i (cell_count p) (length birth) (length (take (cell_count p) birth)) (length-take (cell_count p) birth) h); fitness = refl }
-  where
-    under : (i a b c : ℕ) → c ≡ min a b → i < c → i < a
-    under i a b c e h = omega arith
+    record { count = refl; len = row_length p birth (take (cell_count p) birth) refl; past = row_past p birth (take (cell_count p) birth) refl; bytes = λ i h. get_or-take (cell_count p) birth i 0 (omega (arith, length-take (cell_count p) birth)); fitness = refl }
 
 pub cells_stand : CellsStand
 cells_stand p lw birth h = by (unfit p (take (cell_count p) birth)) refl
@@ -120,18 +105,6 @@ cells_stand p lw birth h = by (unfit p (take (cell_count p) birth)) refl
 abbrev Told : Outcome → Telling → Type 0
 Told o t = (o.levels ≡ t.levels) × (o.says ≡ t.says)
 
-abbrev level_or : Level → Result Level Refusal → Level
-level_or q (Ok x) = x
-level_or q (Err r) = q
-
-abbrev refusal_or : Refusal → Result Level Refusal → Refusal
-refusal_or r (Ok x) = r
-refusal_or r (Err s) = s
-
-abbrev IsLevel : Result Level Refusal → Type 0
-IsLevel (Ok q) = Unit {0}
-IsLevel (Err r) = ⊥
-
 records_told : (p : Shape) → Lawful p → (birth bytes : List ℕ) (i : ℕ) (j : Journal) (v : View) → Stands p birth j v → Told (records p v i bytes) (journal_tells p birth j i bytes)
 records_told p lw birth [] i j v s = (refl, refl)
 records_told p lw birth (k ∷ []) i j v s = (refl, refl)
@@ -144,10 +117,10 @@ records_told p lw birth (k ∷ l ∷ more) i j v s =
         (elim n as (λ _. Telling) [ note.took x ↦ tells_more (note.q_of x) (journal_tells p birth x (i + 1) more) | note.turned r ↦ record { levels = []; says = Err (raised r i) } ])
     by (taken u) (note.took x) e t go =
         let rest = go u x t in
-        (ap (λ q. q ∷ (records p u (i + 1) more).levels) (ap (level_or (note.q_of x)) e) ∙ ap (λ qs. note.q_of x ∷ qs) rest.0, rest.1)
-    by (taken u) (note.turned r) e t go = absurd (subst IsLevel e tt)
-    by (refused r) (note.took x) e t go = absurd (subst IsLevel (sym e) tt)
-    by (refused r) (note.turned q) e t go = (refl, ap (λ x. Err (raised x i)) (ap (refusal_or r) e))
+        (cc, rest.1)
+    by (taken u) (note.turned r) e t go = cc
+    by (refused r) (note.took x) e t go = cc
+    by (refused r) (note.turned q) e t go = (refl, cc)
 
 told_by : (p : Shape) → Lawful p → (birth : List ℕ) (j : Journal) (v : View) (bytes : List ℕ) (o o' : Option Refusal) → (o ≡ None → Stands p birth j v) →
     Told (call.unless o v (call.unless o' v (records p v 0 bytes))) (told_first o (told_first o' (journal_tells p birth j 0 bytes)))
@@ -172,16 +145,12 @@ unfit_stand p birth r e h x =
 
 -- ---- refused calls
 
-abbrev IsErr : Result ℕ Fault → Type 0
-IsErr (Ok n) = ⊥
-IsErr (Err e) = Unit {0}
-
 pub refused_event_stands : RefusedEventStands
 refused_event_stands p v k l e says = by (unfit p v.cells) (step p v k l) says
   where
     by : (o : Option Refusal) (d : Done) → (call.unless o v (call.one_event v d)).says ≡ Err e → (call.unless o v (call.one_event v d)).view ≡ v
     by (Some r) d q = refl
-    by None (taken u) q = absurd (subst IsErr (sym q) tt)
+    by None (taken u) q = cc
     by None (refused r) q = refl
 
 -- ---- sameness
@@ -204,17 +173,13 @@ cells_bytes p birth bs j v s = by s.tie s.sound
           | inr h ↦ subst (λ x. x < 256) (sym (get_or_past cells i 0 (subst (λ n. n ≤ i) (sym m.len_is) h))) (lit< tt)
         ]
 
-abbrev IsNone : Option Refusal → Type 0
-IsNone None = Unit {0}
-IsNone (Some r) = ⊥
-
 -- a chip that is fit was born fit
 birth_fit : (p : Shape) (birth : List ℕ) (h : List Call) → unfit p (chip_after p birth h).cells ≡ None → unfit p (take (cell_count p) birth) ≡ None
 birth_fit p birth h f = by (unfit p (take (cell_count p) birth)) refl
   where
     by : (o : Option Refusal) → unfit p (take (cell_count p) birth) ≡ o → unfit p (take (cell_count p) birth) ≡ None
     by None e = e
-    by (Some r) e = absurd (subst IsNone (sym f ∙ ap (λ v. unfit p v.cells) (unfit_history p r (born p birth) e h) ∙ e) tt)
+    by (Some r) e = cc (ap (λ v. unfit p v.cells) (unfit_history p r (born p birth) e h))
 
 -- what agrees is one view
 one_view : {p : Shape} {birth birth' : List ℕ} {j j' : Journal} {u v : View} → Tracks p birth j u → Tracks p birth' j' v → AtRest u → AtRest v → u.shift ≡ v.shift → Agree p birth birth' j j' → u ≡ v
@@ -255,10 +220,6 @@ sameness_stands p lw birth birth' h h' bs bs' f f' r r' =
 
 -- ---- a refused capture
 
-abbrev fault_record : Result ℕ Fault → ℕ
-fault_record (Ok n) = 0
-fault_record (Err e) = e.«record»
-
 -- the records after a first one that came to d
 abbrev follow : Shape → View → ℕ → Done → List ℕ → Outcome
 follow p v i d more =
@@ -278,18 +239,14 @@ record Stops (p : Shape) (v : View) (i : ℕ) (bytes : List ℕ) (e : Fault) : T
   here : step p (records p v i (take (2 * n) bytes)).view (get_or bytes (2 * n) 0) (get_or bytes (2 * n + 1) 0) ≡ refused e.refusal
   fault : e ≡ raised e.refusal e.«record»
 
-abbrev fault_or : Fault → Result ℕ Fault → Fault
-fault_or d (Ok n) = d
-fault_or d (Err e) = e
-
 stops : (p : Shape) (bytes : List ℕ) (v : View) (i : ℕ) (e : Fault) → (records p v i bytes).says ≡ Err e → Stops p v i bytes e
-stops p [] v i e q = absurd (subst IsErr (sym q) tt)
-stops p (k ∷ []) v i e q = absurd (subst IsErr (sym q) tt)
+stops p [] v i e q = cc
+stops p (k ∷ []) v i e q = cc
 stops p (k ∷ l ∷ more) v i e q = by (step p v k l) refl q (λ u z. stops p more u (i + 1) e z)
   where
     by : (d : Done) → step p v k l ≡ d → (follow p v i d more).says ≡ Err e → ((u : View) → (records p u (i + 1) more).says ≡ Err e → Stops p u (i + 1) more e) → Stops p v i (k ∷ l ∷ more) e
     by (refused r) s z go =
-        let f : raised r i ≡ e = ap (fault_or e) z in
+        let f : raised r i ≡ e = cc in
         let zero : i + 0 ≡ i = omega arith in
         record {
           n = 0;
@@ -360,17 +317,17 @@ refused_capture_stands p v bytes room e says = by (unfit p v.cells) refl (refuse
         record {
           view = ap (λ o. (call.unless o v (call.unless (refused_capture bytes room) v (records p v 0 bytes))).view) f ∙ sym (ap (λ o. (cut_at p v bytes e.«record» o).view) f);
           levels = ap (λ o. (call.unless o v (call.unless (refused_capture bytes room) v (records p v 0 bytes))).levels) f ∙ sym (ap (λ o. (cut_at p v bytes e.«record» o).levels) f);
-          at = λ n _. absurd (subst IsNone (sym n ∙ f) tt);
+          at = λ n _. cc;
         }
     by None f (Some r) g q =
         let whole : outcome p v (capture bytes room) ≡ record { view = v; levels = []; says = Err (raised r 0) } =
         ap (λ o. call.unless o v (call.unless (refused_capture bytes room) v (records p v 0 bytes))) f ∙ ap (λ o. call.unless o v (records p v 0 bytes)) g in
         let part : ahead_of p v bytes e ≡ record { view = v; levels = []; says = Ok 0 } =
-        ap (λ o. cut_at p v bytes e.«record» o) f ∙ ap (λ m. cut_at p v bytes m None) (sym (ap fault_record q)) in
+        ap (λ o. cut_at p v bytes e.«record» o) f ∙ ap (λ m. cut_at p v bytes m None) (let z : e.«record» ≡ 0 = cc in z) in
         record {
           view = ap (λ x. x.view) whole ∙ sym (ap (λ x. x.view) part);
           levels = ap (λ x. x.levels) whole ∙ sym (ap (λ x. x.levels) part);
-          at = λ _ n. absurd (subst IsNone (sym n ∙ g) tt);
+          at = λ _ n. cc;
         }
     by None f None g q =
         let c = stops p bytes v 0 e q in

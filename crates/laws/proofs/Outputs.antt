@@ -1,6 +1,6 @@
 -- A shifting fall of C puts out what the journal says.
 use Rattle.std.proofs.Common.{◌≡◌, ℕ, ◌+◌, ◌-◌, ◌/◌, ◌%◌, ◌^◌, ◌<◌, ◌≤◌, Bool, true, false, cond, eqb, ltb, List, [], ◌∷◌, ◌++◌, length, get_or, take, drop, sym, refl, ap, ◌∙◌, subst, inl, inr, mod-lt, arith, length-append, pow_pos}
-use Rattle.std.proofs.lemmas.Bool.{le-leb, lt-leb, cases_lt, both_ways}
+use Rattle.std.proofs.lemmas.Bool.{le-leb, lt-leb, cases_lt}
 use Rattle.std.proofs.lemmas.List.{drop_at, length-drop, length-take-le}
 use Rattle.rules.specs.declared.state.Level.{Level}
 use Rattle.rules.specs.declared.state.Instruction.{Instruction}
@@ -28,35 +28,20 @@ use Rattle.laws.proofs.Keeps.{pick, vw, Mem, SampleOk, ignored_on}
 abbrev silent : Phase → Bool
 silent Deselected = false
 silent (Instructing n v) = false
-silent Ignored = true
-silent Enable = true
-silent Disable = true
 silent (Status k) = false
-silent (Address a wel n v) = true
 silent (Output r a k) = false
-silent (Input g) = true
+silent ph = true
 
 silent_shifted : (p : Shape) (v : View) (held : Bool) (ph : Phase) → silent ph ≡ true → shifted p v held ph ≡ same_shown v.shift held
-silent_shifted p v held Deselected e = refl
-silent_shifted p v held (Instructing n b) e = refl
-silent_shifted p v held Ignored e = refl
-silent_shifted p v held Enable e = refl
-silent_shifted p v held Disable e = refl
-silent_shifted p v held (Status k) e = absurd (both_ways false refl e)
-silent_shifted p v held (Address a wel n b) e = refl
-silent_shifted p v held (Output r a k) e = absurd (both_ways false refl e)
-silent_shifted p v held (Input g) e = refl
+silent_shifted p v held (Status k) e = cc
+silent_shifted p v held (Output r a k) e = cc
+silent_shifted p v held ph e = refl
 
 silent_sample : (p : Shape) (cells : List ℕ) (due : Bool) (ph : Phase) (sample sampled : ℕ) → silent ph ≡ true → SampleOk p cells due ph sample sampled
-silent_sample p cells due Deselected sample sampled e = tt
-silent_sample p cells due (Instructing n v) sample sampled e = absurd (both_ways false refl e)
-silent_sample p cells due Ignored sample sampled e = tt
-silent_sample p cells due Enable sample sampled e = tt
-silent_sample p cells due Disable sample sampled e = tt
-silent_sample p cells due (Status k) sample sampled e = absurd (both_ways false refl e)
-silent_sample p cells due (Address a wel n v) sample sampled e = tt
-silent_sample p cells due (Output r a k) sample sampled e = absurd (both_ways false refl e)
-silent_sample p cells due (Input g) sample sampled e = tt
+silent_sample p cells due (Instructing n v) sample sampled e = cc
+silent_sample p cells due (Status k) sample sampled e = cc
+silent_sample p cells due (Output r a k) sample sampled e = cc
+silent_sample p cells due ph sample sampled e = tt
 
 silent_enable : (ident : ℕ) (rest : List Bool) → silent (goes_on ident Enable rest) ≡ true
 silent_enable ident [] = refl

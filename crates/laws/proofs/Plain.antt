@@ -6,7 +6,7 @@ use Rattle.rules.specs.declared.state.Event.{Event}
 use Rattle.rules.specs.declared.state.Event.TheVariants.{Select, Clock, Data, Protect, Hold, CycleEnd, Power}
 use Rattle.rules.specs.declared.state.Cycle.TheVariants.{Busy}
 use Rattle.rules.specs.declared.state.Phase.{Phase}
-use Rattle.rules.specs.declared.state.Phase.TheVariants.{Deselected, Instruction as Instructing, Ignored, Enable, Disable, Status, Address, Output, Input}
+use Rattle.rules.specs.declared.state.Phase.TheVariants.{Input}
 use Rattle.rules.specs.Shape.{Shape, status_at, lock_at}
 use Rattle.rules.specs.Tables.{decoded, unfit}
 use Rattle.rules.specs.Rules.{View, Done, taken, refused, step, does, unless, refuses, moved, after, answer, closed, deselected, pending, counts, rises_s, rises_c, falls_c, holds}
@@ -17,28 +17,15 @@ use Rattle.laws.specs.Laws.{Action, send, answers, as_number, of_bytes, Alike}
 
 -- an event that ends no cycle
 abbrev pub calm : Result Event Refusal → Bool
-calm (Ok (Select l)) = true
-calm (Ok (Clock l)) = true
-calm (Ok (Data l)) = true
-calm (Ok (Protect l)) = true
-calm (Ok (Hold l)) = true
 calm (Ok CycleEnd) = false
-calm (Ok Power) = true
-calm (Err r) = true
+calm x = true
 
 closed_cells : (p : Shape) (v : View) (ph : Phase) → (closed p v ph).cells ≡ v.cells
-closed_cells p v Deselected = refl
-closed_cells p v (Instructing n b) = refl
-closed_cells p v Ignored = refl
-closed_cells p v Enable = refl
-closed_cells p v Disable = refl
-closed_cells p v (Status k) = refl
-closed_cells p v (Address a was n b) = refl
-closed_cells p v (Output r a k) = refl
 closed_cells p v (Input g) =
     elim (counts p v.pins.protect (get_or v.cells (status_at p) 0) (get_or v.cells (lock_at p) 0) g)
     as (λ t. (elim t as (λ _. View) [ true ↦ deselected v v.wel (Busy (pending g)) | false ↦ deselected v v.wel v.cycle ]).cells ≡ v.cells)
     [ true ↦ refl | false ↦ refl ]
+closed_cells p v ph = refl
 
 select_cells : (p : Shape) (v : View) (held : Bool) → (rises_s p v held).cells ≡ v.cells
 select_cells p v true = refl

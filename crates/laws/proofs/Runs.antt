@@ -1,11 +1,9 @@
 -- After every history the journal keeps what the chip shows.
-use Rattle.std.proofs.Common.{◌≡◌, ℕ, ◌+◌, ◌<◌, ◌≤◌, min, true, false, eqb, ltb, List, [], ◌∷◌, length, get_or, take, Some, None, Ok, Err, Option, Result, sym, refl, ap, ◌∙◌, subst, arith, length-take}
+use Rattle.std.proofs.Common.{◌≡◌, ℕ, ◌+◌, ◌<◌, ◌≤◌, false, List, [], ◌∷◌, length, get_or, take, Some, None, Ok, Err, Option, Result, sym, refl, ap, ◌∙◌, subst, arith, length-take}
 use Rattle.std.proofs.lemmas.Bool.{eq-eqb, le-ltb}
 use Rattle.std.proofs.lemmas.List.{get_or-take}
 use Rattle.backing.specs.Faults.{raised}
 use Rattle.backing.specs.declared.refusal.Refusal.{Refusal}
-use Rattle.backing.specs.declared.refusal.Refusal.TheVariants.{ShortBacking, StatusBits, LockValue}
-use Rattle.rules.specs.declared.state.Level.{Level}
 use Rattle.rules.specs.declared.state.Event.{Event}
 use Rattle.rules.specs.Shape.{Shape, Lawful, status_at, lock_at, cell_count}
 use Rattle.rules.specs.Tables.{decoded, kept, unfit, refused_capture, refused_copy}
@@ -28,10 +26,7 @@ pub record Stands (p : Shape) (birth : List ℕ) (j : Journal) (v : View) : Type
 -- ---- fitness
 
 made_fit : (p : Shape) (cells : List ℕ) → cell_count p ≤ length cells → kept (get_or cells (status_at p) 0) ≡ get_or cells (status_at p) 0 → get_or cells (lock_at p) 0 ≤ 1 → unfit p cells ≡ None
-made_fit p cells long s l =
-    ap (λ t. elim t as (λ _. Option Refusal) [ true ↦ Some ShortBacking | false ↦ elim (eqb (kept (get_or cells (status_at p) 0)) (get_or cells (status_at p) 0)) as (λ _. Option Refusal) [ false ↦ Some StatusBits | true ↦ elim (ltb 1 (get_or cells (lock_at p) 0)) as (λ _. Option Refusal) [ true ↦ Some LockValue | false ↦ None ] ] ]) (le-ltb (length cells) (cell_count p) long)
-    ∙ ap (λ t. elim t as (λ _. Option Refusal) [ false ↦ Some StatusBits | true ↦ elim (ltb 1 (get_or cells (lock_at p) 0)) as (λ _. Option Refusal) [ true ↦ Some LockValue | false ↦ None ] ]) (eq-eqb (kept (get_or cells (status_at p) 0)) (get_or cells (status_at p) 0) s)
-    ∙ ap (λ t. elim t as (λ _. Option Refusal) [ true ↦ Some LockValue | false ↦ None ]) (le-ltb 1 (get_or cells (lock_at p) 0) l)
+made_fit p cells long s l = rw (le-ltb (length cells) (cell_count p) long, eq-eqb (kept (get_or cells (status_at p) 0)) (get_or cells (status_at p) 0) s, le-ltb 1 (get_or cells (lock_at p) 0) l, unfit)
 
 abbrev born_cells : Shape → List ℕ → List ℕ
 born_cells p birth = take (cell_count p) birth
@@ -60,17 +55,10 @@ pub birth_stands : (p : Shape) (birth : List ℕ) → unfit p (born_cells p birt
 birth_stands p birth f =
     let at : (i : ℕ) → i < cell_count p → get_or (born_cells p birth) i 0 ≡ get_or birth i 0 = λ i h. get_or-take (cell_count p) birth i 0 h in
     let long : cell_count p ≤ length (born_cells p birth) = fit_length p (born_cells p birth) f in
-    let len : length (born_cells p birth) ≡ cell_count p = whole (cell_count p) (length birth) (length (born_cells p birth)) (length-take (cell_count p) birth) long in
+    let len : length (born_cells p birth) ≡ cell_count p = omega (arith, length-take (cell_count p) birth) in
     record { tie = tracks resting (record { run_is = refl; len_is = len; now_is = at; then_is = at }); sound = tt }
-  where
-    whole : (a b c : ℕ) → c ≡ min a b → a ≤ c → c ≡ a
-    whole a b c e h = omega arith
 
 -- ---- an event
-
-abbrev IsOk : Result Level Refusal → Type 0
-IsOk (Ok q) = Unit {0}
-IsOk (Err r) = ⊥
 
 module _ (p : Shape) (law : Lawful p) (birth : List ℕ) where
   noted_sound : (j : Journal) (r : Result Event Refusal) → SoundList p j.entries → SoundList p (note.after_noting j (note.notes_event p birth j r)).entries
@@ -101,8 +89,8 @@ module _ (p : Shape) (law : Lawful p) (birth : List ℕ) where
           Stands p birth (elim n as (λ _. Journal) [ took x ↦ journal_records p birth x more | turned r ↦ j ])
           (elim d as (λ _. Outcome) [ taken u ↦ call.with_level (seen u.shift) (records p u (i + 1) more) | refused r ↦ record { view = v; levels = []; says = Err (raised r i) } ]).view
       by (taken u) (took x) t e go = go x u t
-      by (taken u) (turned r) t e go = absurd (subst IsOk e tt)
-      by (refused r) (took x) t e go = absurd (subst IsOk (sym e) tt)
+      by (taken u) (turned r) t e go = cc
+      by (refused r) (took x) t e go = cc
       by (refused r) (turned q) t e go = t
 
   -- ---- a call on a fit chip

@@ -1,5 +1,5 @@
 -- An event, taken or refused, keeps the tie and draws the same answer from journal and chip.
-use Rattle.std.proofs.Common.{◌≡◌, ℕ, Bool, true, false, List, Some, None, Ok, Err, Option, Result, sym, refl, ap, ◌∙◌, subst}
+use Rattle.std.proofs.Common.{◌≡◌, ℕ, Bool, true, false, List, Some, None, Ok, Err, Option, Result, refl, ap, ◌∙◌}
 use Rattle.backing.specs.declared.refusal.Refusal.{Refusal}
 use Rattle.backing.specs.declared.refusal.Refusal.TheVariants.{NoCycle}
 use Rattle.rules.specs.declared.state.Level.{Level}
@@ -17,13 +17,6 @@ use Rattle.laws.specs.Journal.{Journal, Noted, Entry, cycle_runs, enabled, notin
 use Rattle.laws.proofs.Keeps.{Mem, Fits, resting, young, old, Tracks, tracks, jr, vw}
 use Rattle.laws.proofs.Moves.{off_is, data_keeps, protect_keeps, hold_keeps, select_keeps, power_keeps, rise_keeps, fall_keeps, deselect_keeps, end_keeps}
 
-abbrev IsNone : Option Refusal → Type 0
-IsNone None = Unit {0}
-IsNone (Some r) = ⊥
-
-no_some : (r : Refusal) → Some r ≡ None → ⊥
-no_some r e = subst IsNone (sym e) tt
-
 module _ (p : Shape) (law : Lawful p) (birth : List ℕ) (es : List Entry) (cy : Cycle) (cells : List ℕ) (m : Mem p birth es cy cells) where
   abbrev J : (s c d w h held : Bool) → List Bool → Noted → Level → ℕ → Journal
   J s c d w h held bits nt last sampled = jr s c d w h held bits nt last sampled es
@@ -33,14 +26,14 @@ module _ (p : Shape) (law : Lawful p) (birth : List ℕ) (es : List Entry) (cy :
 
   moves : (s c d w h held : Bool) (bits : List Bool) (nt : Noted) (last : Level) (sampled : ℕ) (ph : Phase) (sh : Shift) → Fits p cells es s c held bits nt last sampled ph sh → (e : Event) →
       note.refuses (J s c d w h held bits nt last sampled) e ≡ None → Tracks p birth (noting p birth (J s c d w h held bits nt last sampled) e) (moved p (V c d w h ph sh) e)
-  moves true c d w h held bits nt last sampled ph sh f (Select true) n = absurd (no_some _ n)
+  moves true c d w h held bits nt last sampled ph sh f (Select true) n = cc
   moves false c d w h held bits nt last sampled ph sh f (Select true) n = deselect_keeps p birth es cy cells m law c d w h held bits nt last sampled ph sh f
   moves true c d w h held bits nt last sampled ph sh f (Select false) n = select_keeps p birth es cy cells m c d w h held bits nt last sampled ph sh f
-  moves false c d w h held bits nt last sampled ph sh f (Select false) n = absurd (no_some _ n)
-  moves s true d w h held bits nt last sampled ph sh f (Clock true) n = absurd (no_some _ n)
+  moves false c d w h held bits nt last sampled ph sh f (Select false) n = cc
+  moves s true d w h held bits nt last sampled ph sh f (Clock true) n = cc
   moves s false d w h held bits nt last sampled ph sh f (Clock true) n = rise_keeps p birth es cy cells m s d w h held bits nt last sampled ph sh f
   moves s true d w h held bits nt last sampled ph sh f (Clock false) n = fall_keeps p birth es cy cells m law s d w h held bits nt last sampled ph sh f
-  moves s false d w h held bits nt last sampled ph sh f (Clock false) n = absurd (no_some _ n)
+  moves s false d w h held bits nt last sampled ph sh f (Clock false) n = cc
   moves s c d w h held bits nt last sampled ph sh f (Data l) n = data_keeps p birth es cy cells m s c d w h held bits nt last sampled ph sh f l
   moves s c d w h held bits nt last sampled ph sh f (Protect l) n = protect_keeps p birth es cy cells m s c d w h held bits nt last sampled ph sh f l
   moves s c d w h held bits nt last sampled ph sh f (Hold l) n = hold_keeps p birth es cy cells m s c d w h held bits nt last sampled ph sh f l
@@ -48,9 +41,9 @@ module _ (p : Shape) (law : Lawful p) (birth : List ℕ) (es : List Entry) (cy :
     where
       runs : (r : Bool) → elim r as (λ _. Option Refusal) [ true ↦ None | false ↦ Some NoCycle ] ≡ None → r ≡ true
       runs true q = refl
-      runs false q = absurd (no_some _ q)
+      runs false q = cc
   moves true c d w h held bits nt last sampled ph sh f Power n = power_keeps p birth es cy cells m c d w h held bits nt last sampled ph sh f
-  moves false c d w h held bits nt last sampled ph sh f Power n = absurd (no_some _ n)
+  moves false c d w h held bits nt last sampled ph sh f Power n = cc
 
   refused_same : (s c d w h held : Bool) (bits : List Bool) (nt : Noted) (last : Level) (sampled : ℕ) (ph : Phase) (sh : Shift) → Fits p cells es s c held bits nt last sampled ph sh → (e : Event) →
       rule.refuses (V c d w h ph sh) e ≡ note.refuses (J s c d w h held bits nt last sampled) e
@@ -81,16 +74,9 @@ Both p birth d n v j = Tracks p birth (note.after_noting j n) (rule.after v d) �
 
 both : (p : Shape) (birth : List ℕ) (v u : View) (j i : Journal) (o o' : Option Refusal) → o ≡ o' → Tracks p birth j v → (o' ≡ None → Tracks p birth i u) → Both p birth (rule.unless o u) (note.unless o' i) v j
 both p birth v u j i None None e t k = (k refl, ap Ok (seen_is (k refl)))
-both p birth v u j i (Some r) None e t k = absurd (no_some r e)
-both p birth v u j i None (Some r) e t k = absurd (no_some r (sym e))
-both p birth v u j i (Some r) (Some r') e t k = (t, ap Err (inner r r' e))
-  where
-    out : Refusal → Option Refusal → Refusal
-    out d None = d
-    out d (Some x) = x
-
-    inner : (r r' : Refusal) → Some r ≡ Some r' → r ≡ r'
-    inner r r' e = ap (out r) e
+both p birth v u j i (Some r) None e t k = cc
+both p birth v u j i None (Some r) e t k = cc
+both p birth v u j i (Some r) (Some r') e t k = (t, cc)
 
 pub together : (p : Shape) → Lawful p → (birth : List ℕ) (j : Journal) (v : View) → Tracks p birth j v → (r : Result Event Refusal) → Both p birth (rule.does p v r) (note.notes_event p birth j r) v j
 together p law birth j v t (Err r) = (t, refl)

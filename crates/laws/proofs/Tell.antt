@@ -1,7 +1,8 @@
 -- Two chips at rest that answer every list of events alike show the same.
-use Rattle.std.proofs.Common.{◌≡◌, ℕ, zero, suc, ◌+◌, ◌-◌, ◌/◌, ◌%◌, ◌^◌, ◌<◌, ◌≤◌, Bool, true, false, ◌&&◌, T, eqb, ltb, List, [], ◌∷◌, ◌++◌, length, get_or, Some, None, Ok, Err, Option, Result, sym, refl, ap, ◌∙◌, subst, subst₂, inl, inr, mod-eq_of_lt, arith, lit<}
+use Rattle.std.proofs.Common.{◌≡◌, ℕ, zero, suc, ◌+◌, ◌-◌, ◌/◌, ◌%◌, ◌^◌, ◌<◌, ◌≤◌, Bool, true, false, ◌&&◌, T, eqb, ltb, List, [], ◌∷◌, ◌++◌, length, get_or, Some, None, Ok, Option, Result, sym, refl, ap, ◌∙◌, subst, subst₂, inl, inr, mod-eq_of_lt, arith, lit<}
 use Rattle.std.proofs.lemmas.Bool.{cases_eq, cases_lt, eqb-true, ltb-false}
-use Rattle.std.proofs.lemmas.Nat.{shr-shr, pow_below}
+use Rattle.std.proofs.lemmas.Nat.{pow_below}
+use Rattle.std.proofs.lemmas.Nat.Bits.{same_from_bits_below}
 use Rattle.backing.specs.Rows.{Bytes}
 use Rattle.backing.specs.declared.refusal.Refusal.{Refusal}
 use Rattle.backing.specs.declared.refusal.Refusal.TheVariants.{ShortBacking, StatusBits, LockValue}
@@ -131,36 +132,15 @@ says_alike p u v al es f =
 
 -- ---- bits
 
-half_same : (x y m n : ℕ) → x / 2 ≡ m → y / 2 ≡ n → m ≡ n → x % 2 ≡ y % 2 → x ≡ y
-half_same x y m n p q r e = omega arith
-
 byte_from_bits : (a b : ℕ) → a < 256 → b < 256 → ((k : ℕ) → k < 8 → bit_of a k ≡ bit_of b k) → a ≡ b
 byte_from_bits a b ha hb f =
-    let s8 : a / 256 ≡ b / 256 = omega arith in
-    let s7 : a / 128 ≡ b / 128 = half_same (a / 128) (b / 128) (a / 256) (b / 256) (shr-shr a 7 1) (shr-shr b 7 1) s8 (f 0 (lit< tt)) in
-    let s6 : a / 64 ≡ b / 64 = half_same (a / 64) (b / 64) (a / 128) (b / 128) (shr-shr a 6 1) (shr-shr b 6 1) s7 (f 1 (lit< tt)) in
-    let s5 : a / 32 ≡ b / 32 = half_same (a / 32) (b / 32) (a / 64) (b / 64) (shr-shr a 5 1) (shr-shr b 5 1) s6 (f 2 (lit< tt)) in
-    let s4 : a / 16 ≡ b / 16 = half_same (a / 16) (b / 16) (a / 32) (b / 32) (shr-shr a 4 1) (shr-shr b 4 1) s5 (f 3 (lit< tt)) in
-    let s3 : a / 8 ≡ b / 8 = half_same (a / 8) (b / 8) (a / 16) (b / 16) (shr-shr a 3 1) (shr-shr b 3 1) s4 (f 4 (lit< tt)) in
-    let s2 : a / 4 ≡ b / 4 = half_same (a / 4) (b / 4) (a / 8) (b / 8) (shr-shr a 2 1) (shr-shr b 2 1) s3 (f 5 (lit< tt)) in
-    let s1 : a / 2 ≡ b / 2 = half_same (a / 2) (b / 2) (a / 4) (b / 4) (shr-shr a 1 1) (shr-shr b 1 1) s2 (f 6 (lit< tt)) in
-    let e7 : a / 1 % 2 ≡ b / 1 % 2 = f 7 (lit< tt) in
-    let o : (x : ℕ) → x / 1 ≡ x = λ x. omega arith in
-    half_same a b (a / 2) (b / 2) refl refl s1 (ap (λ x. x % 2) (sym (o a)) ∙ (e7 ∙ ap (λ x. x % 2) (o b)))
-
-abbrev IsValue : Result ℕ Fault → Type 0
-IsValue (Ok n) = Unit {0}
-IsValue (Err e) = ⊥
-
-abbrev un_ok : Result ℕ Fault → ℕ
-un_ok (Ok n) = n
-un_ok (Err e) = 0
+    same_from_bits_below 8 a b ha hb (λ i h. let e : 7 - (7 - i) ≡ i = omega arith in subst (λ n. a / 2 ^ n % 2 ≡ b / 2 ^ n % 2) e (f (7 - i) (omega arith)))
 
 -- a bit by the level that shows it
 level_bit : (x : ℕ) → x < 2 → level_number (level_of x) ≡ x
 level_bit zero lt = refl
 level_bit (suc zero) lt = refl
-level_bit (suc (suc x)) lt = absurd (let z : ⊥ = omega arith in z)
+level_bit (suc (suc x)) lt = absurd (omega arith)
 
 same_bit : (x y : ℕ) → level_number (level_of (x % 2)) ≡ level_number (level_of (y % 2)) → x % 2 ≡ y % 2
 same_bit x y e = sym (level_bit (x % 2) (omega arith)) ∙ (e ∙ level_bit (y % 2) (omega arith))
@@ -174,7 +154,7 @@ below_8 P a b c d e f g h (suc (suc (suc (suc zero)))) lt = e
 below_8 P a b c d e f g h (suc (suc (suc (suc (suc zero))))) lt = f
 below_8 P a b c d e f g h (suc (suc (suc (suc (suc (suc zero)))))) lt = g
 below_8 P a b c d e f g h (suc (suc (suc (suc (suc (suc (suc zero))))))) lt = h
-below_8 P a b c d e f g h (suc (suc (suc (suc (suc (suc (suc (suc k)))))))) lt = absurd (let z : ⊥ = omega arith in z)
+below_8 P a b c d e f g h (suc (suc (suc (suc (suc (suc (suc (suc k)))))))) lt = absurd (omega arith)
 
 -- a byte by the levels at its bits
 byte_from_levels : (a b : ℕ) → a < 256 → b < 256 → ((k : ℕ) → k < 8 → level_number (level_of (bit_of a k)) ≡ level_number (level_of (bit_of b k))) → a ≡ b
@@ -198,7 +178,7 @@ module _ (p : Shape) (w wel : Bool) (cells : List ℕ) (r : Region) (a : ℕ) wh
   Ticks k = go p (reading p w wel cells r a k) (clk 1) ≡ reading p w wel cells r a (suc k)
 
   ticks : (k : ℕ) → k < 7 → Ticks k
-  ticks k h = below_8 (λ j. j < 7 → Ticks j) (λ _. refl) (λ _. refl) (λ _. refl) (λ _. refl) (λ _. refl) (λ _. refl) (λ _. refl) (λ l. absurd (let z : ⊥ = omega arith in z)) k (omega arith) h
+  ticks k h = below_8 (λ j. j < 7 → Ticks j) (λ _. refl) (λ _. refl) (λ _. refl) (λ _. refl) (λ _. refl) (λ _. refl) (λ _. refl) (λ l. absurd (omega arith)) k (omega arith) h
 
   at_bit : (k : ℕ) → k < 8 → go p (reading p w wel cells r a 0) (clk k) ≡ reading p w wel cells r a k
   at_bit k h = clocks_by p (reading p w wel cells r a) ticks 0 k (omega arith) ∙ ap (reading p w wel cells r a) (omega arith)
@@ -237,7 +217,7 @@ module _ (p : Shape) (w wel wel' : Bool) (cells cells' : List ℕ) (r : Region) 
       level_number (level_of (bit_of (get_or cells (place p r (a + i)) 0) k)) ≡ level_number (level_of (bit_of (get_or cells' (place p r (a + i)) 0) k))
   levels_alike i hi k hk =
       let f : Fine (cmd ++ (rounds i ++ clk k)) = fine_append cmd (rounds i ++ clk k) fine (fine_append (rounds i) (clk k) (fine_rounds i) (fine_clk k)) in
-      ap un_ok (sym (comes u wel cells ou i k hi hk) ∙ (says_alike p u v al (cmd ++ (rounds i ++ clk k)) f ∙ comes v wel' cells' ov i k hi hk))
+      cc (comes u wel cells ou i k hi hk, says_alike p u v al (cmd ++ (rounds i ++ clk k)) f, comes v wel' cells' ov i k hi hk)
 
   bytes_alike : Bytes cells → Bytes cells' → (i : ℕ) → a + i < 4294967296 → get_or cells (place p r (a + i)) 0 ≡ get_or cells' (place p r (a + i)) 0
   bytes_alike b b' i hi = byte_from_levels (get_or cells (place p r (a + i)) 0) (get_or cells' (place p r (a + i)) 0) (b (place p r (a + i))) (b' (place p r (a + i))) (levels_alike i hi)
@@ -298,7 +278,7 @@ module _ (p : Shape) (w wel : Bool) (cells : List ℕ) where
   Asks k = go p (asking p w wel cells k) (clk 1) ≡ asking p w wel cells (suc k)
 
   asks : (k : ℕ) → k < 7 → Asks k
-  asks k h = below_8 (λ j. j < 7 → Asks j) (λ _. refl) (λ _. refl) (λ _. refl) (λ _. refl) (λ _. refl) (λ _. refl) (λ _. refl) (λ l. absurd (let z : ⊥ = omega arith in z)) k (omega arith) h
+  asks k h = below_8 (λ j. j < 7 → Asks j) (λ _. refl) (λ _. refl) (λ _. refl) (λ _. refl) (λ _. refl) (λ _. refl) (λ _. refl) (λ l. absurd (omega arith)) k (omega arith) h
 
   at_status : (k : ℕ) → k < 8 → go p (asking p w wel cells 0) (clk k) ≡ asking p w wel cells k
   at_status k h = clocks_by p (asking p w wel cells) asks 0 k (omega arith) ∙ ap (asking p w wel cells) (omega arith)
@@ -311,9 +291,7 @@ module _ (p : Shape) (w wel : Bool) (cells : List ℕ) where
 status_alike : (p : Shape) (c d w h wel wel' : Bool) (cells cells' : List ℕ) → PlainlyAlike p (rest c d w h wel cells) (rest c d w h wel' cells') → (k : ℕ) → k < 8 →
     level_number (level_of (bit_of (status_now p wel cells) k)) ≡ level_number (level_of (bit_of (status_now p wel' cells') k))
 status_alike p c d w h wel wel' cells cells' al k lt =
-    ap un_ok (sym (status_comes p w wel cells c d h k lt) ∙
-    (says_alike p (rest c d w h wel cells) (rest c d w h wel' cells') al (opens (5 ∷ []) ++ clk k) (fine_append (opens (5 ∷ [])) (clk k) (tt, tt) (fine_clk k)) ∙
-    status_comes p w wel' cells' c d h k lt))
+    cc (status_comes p w wel cells c d h k lt, says_alike p (rest c d w h wel cells) (rest c d w h wel' cells') al (opens (5 ∷ []) ++ clk k) (fine_append (opens (5 ∷ [])) (clk k) (tt, tt) (fine_clk k)), status_comes p w wel' cells' c d h k lt)
 
 -- the byte of a fit chip's status cell, with its latch
 small : (s : ℕ) (wel : Bool) → s < 256 → kept s ≡ s → status_byte s wel false < 256
@@ -323,8 +301,8 @@ small s false h e = omega arith
 apart : (s t : ℕ) (a b : Bool) → kept s ≡ s → kept t ≡ t → status_byte s a false ≡ status_byte t b false → (a ≡ b) × (s ≡ t)
 apart s t true true e f q = (refl, omega arith)
 apart s t false false e f q = (refl, omega arith)
-apart s t true false e f q = absurd (let z : ⊥ = omega arith in z)
-apart s t false true e f q = absurd (let z : ⊥ = omega arith in z)
+apart s t true false e f q = absurd (omega arith)
+apart s t false true e f q = absurd (omega arith)
 
 -- ---- fitness
 
@@ -340,21 +318,15 @@ fitting a b c =
           ]
     ]
 
-abbrev IsNone : Option Refusal → Type 0
-IsNone None = Unit {0}
-IsNone (Some r) = ⊥
-
-fit_parts : (a b c : Bool) → IsNone (fitting a b c) → (a ≡ false) × (b ≡ true) × (c ≡ false)
-fit_parts true b c e = absurd e
-fit_parts false false c e = absurd e
-fit_parts false true true e = absurd e
+fit_parts : (a b c : Bool) → fitting a b c ≡ None → (a ≡ false) × (b ≡ true) × (c ≡ false)
 fit_parts false true false e = (refl, refl, refl)
+fit_parts a b c e = cc
 
 module _ (p : Shape) (cells : List ℕ) (fit : unfit p cells ≡ None) where
   all_parts : (ltb (length cells) (cell_count p) ≡ false) × (eqb (kept (get_or cells (status_at p) 0)) (get_or cells (status_at p) 0) ≡ true) × (ltb 1 (get_or cells (lock_at p) 0) ≡ false)
   all_parts =
       fit_parts (ltb (length cells) (cell_count p)) (eqb (kept (get_or cells (status_at p) 0)) (get_or cells (status_at p) 0)) (ltb 1 (get_or cells (lock_at p) 0))
-      (subst IsNone (sym fit) tt)
+      fit
 
   pub fit_length : cell_count p ≤ length cells
   fit_length = ltb-false (length cells) (cell_count p) all_parts.0
@@ -374,26 +346,26 @@ module _ (p : Shape) (wel wel' : Bool) (cells cells' : List ℕ) where
 
   same_clock : (c c' d d' w w' h h' : Bool) → Says 1 (levels c d w h) (levels c' d' w' h') → c ≡ c'
   same_clock true true d d' w w' h h' e = refl
-  same_clock true false d d' w w' h h' e = absurd (subst IsValue (sym e) tt)
-  same_clock false true d d' w w' h h' e = absurd (subst IsValue e tt)
+  same_clock true false d d' w w' h h' e = cc
+  same_clock false true d d' w w' h h' e = cc
   same_clock false false d d' w w' h h' e = refl
 
   same_input : (c c' d d' w w' h h' : Bool) → Says 2 (levels c d w h) (levels c' d' w' h') → d ≡ d'
   same_input c c' true true w w' h h' e = refl
-  same_input c c' true false w w' h h' e = absurd (subst IsValue (sym e) tt)
-  same_input c c' false true w w' h h' e = absurd (subst IsValue e tt)
+  same_input c c' true false w w' h h' e = cc
+  same_input c c' false true w w' h h' e = cc
   same_input c c' false false w w' h h' e = refl
 
   same_protect : (c c' d d' w w' h h' : Bool) → Says 3 (levels c d w h) (levels c' d' w' h') → w ≡ w'
   same_protect c c' d d' true true h h' e = refl
-  same_protect c c' d d' true false h h' e = absurd (subst IsValue (sym e) tt)
-  same_protect c c' d d' false true h h' e = absurd (subst IsValue e tt)
+  same_protect c c' d d' true false h h' e = cc
+  same_protect c c' d d' false true h h' e = cc
   same_protect c c' d d' false false h h' e = refl
 
   same_hold : (c c' d d' w w' h h' : Bool) → Says 4 (levels c d w h) (levels c' d' w' h') → h ≡ h'
   same_hold c c' d d' w w' true true e = refl
-  same_hold c c' d d' w w' true false e = absurd (subst IsValue (sym e) tt)
-  same_hold c c' d d' w w' false true e = absurd (subst IsValue e tt)
+  same_hold c c' d d' w w' true false e = cc
+  same_hold c c' d d' w w' false true e = cc
   same_hold c c' d d' w w' false false e = refl
 
 -- ---- cells, with the same levels
