@@ -3,7 +3,7 @@ use Rattle.std.proofs.Common.{◌≡◌, ℕ, suc, ◌+◌, ◌-◌, ◌*◌, �
 use native.Mathlib.Nat.{mod_self, pow-succ', pow-le-pow_right}
 use lib.Dec.{eqb-suc-zero}
 use lib.Seq.{take-set-lt}
-use Rattle.std.proofs.lemmas.Bool.{eq-eqb, ne_eqb, le-leb, lt-ltb, le-ltb, cases_lt, and_from, and_right}
+use Rattle.std.proofs.lemmas.Bool.{cond_both, eq-eqb, ne_eqb, le-leb, lt-ltb, le-ltb, cases_lt, and_from, and_right}
 use Rattle.std.proofs.lemmas.List.{take-append-drop, length-set, length-take-le, length-replicate, take-replicate, drop_at, drop-drop, drop_all}
 use Rattle.std.proofs.lemmas.Nat.{mul-le, mod_below}
 use Rattle.rules.specs.declared.state.Instruction.{Instruction}
@@ -21,7 +21,7 @@ use Rattle.rules.specs.declared.state.Phase.{Phase}
 use Rattle.rules.specs.declared.state.Phase.TheVariants.{Ignored, Enable, Disable, Status, Address, Output, Input}
 use Rattle.rules.specs.Shape.{Shape, Lawful, ident_at, status_at, lock_at}
 use Rattle.rules.specs.Tables.{to_number, kept, a10, page_open, status_open, ident_open, locks, page_of}
-use Rattle.rules.specs.Rules.{pushed, pushed_address, rolled, empty, begun, aimed, one_more, latched, some_byte, one_byte, head_byte, base, reach, allowed, counts, put_bytes}
+use Rattle.rules.specs.Rules.{filled, pushed, pushed_address, rolled, empty, begun, aimed, one_more, latched, some_byte, one_byte, head_byte, base, reach, allowed, counts, put_bytes}
 use Rattle.laws.specs.Journal.{Entry, wren_done, wrdi_done, wrote, number_after, number, bytes_in, placed, whole_bytes, if_so, lists}
 
 -- bits latched after the instruction was judged: runs and wel no longer matter
@@ -60,15 +60,14 @@ number_after_lt acc [] = omega arith
 number_after_lt acc (b ∷ bs) =
     let i : number_after (2 * acc + to_number b) bs < (2 * acc + to_number b + 1) * 2 ^ length bs = number_after_lt (2 * acc + to_number b) bs in
     let le : (2 * acc + to_number b + 1) * 2 ^ length bs ≤ (acc + 1) * (2 * 2 ^ length bs) = double acc (2 ^ length bs) (to_number b) (to_number_le b) in
-    let P : ℕ → Type 0 = λ x. number_after (2 * acc + to_number b) bs < (acc + 1) * x in
-    subst P (sym (pow-succ' 2 (length bs))) (omega arith)
+    rw pow-succ' (omega arith)
 
 pub number_lt : (bs : List Bool) → number bs < 2 ^ length bs
-number_lt bs = let i : number_after 0 bs < (0 + 1) * 2 ^ length bs = number_after_lt 0 bs in omega arith
+number_lt bs = omega (arith, number_after_lt 0 bs)
 
 number_le : (acc : ℕ) (bs : List Bool) → acc ≤ number_after acc bs
 number_le acc [] = omega arith
-number_le acc (b ∷ bs) = let i : 2 * acc + to_number b ≤ number_after (2 * acc + to_number b) bs = number_le (2 * acc + to_number b) bs in omega arith
+number_le acc (b ∷ bs) = omega (arith, number_le (2 * acc + to_number b) bs)
 
 -- a register that rolls takes a number that fits
 abbrev pushes : ℕ → List Bool → ℕ
@@ -80,7 +79,7 @@ pushes_is acc [] lt = refl
 pushes_is acc (b ∷ bs) lt =
     let le : 2 * acc + to_number b ≤ number_after (2 * acc + to_number b) bs = number_le (2 * acc + to_number b) bs in
     let e : acc % 128 ≡ acc = mod-eq_of_lt (omega arith) in
-    ap (λ x. pushes (2 * x + to_number b) bs) e ∙ pushes_is (2 * acc + to_number b) bs lt
+    rw e (pushes_is (2 * acc + to_number b) bs lt)
 
 -- the instruction's register
 pub pushed_number : (bs : List Bool) (b : Bool) → length bs < 8 → pushed (number bs) b ≡ number (bs ++ (b ∷ []))
@@ -88,7 +87,7 @@ pushed_number bs b lt =
     let small : number bs < 2 ^ length bs = number_lt bs in
     let le : 2 ^ length bs ≤ 2 ^ 7 = pow-le-pow_right {n = 2} (omega arith) {i = length bs} {j = 7} (omega arith) in
     let e : number bs % 128 ≡ number bs = mod-eq_of_lt (omega arith) in
-    ap (λ x. 2 * x + to_number b) e ∙ sym (number_push 0 bs b)
+    rw (e, number_push 0 bs b)
 
 abbrev pushes_address : ℕ → List Bool → ℕ
 pushes_address acc [] = acc
@@ -99,47 +98,41 @@ pushes_address_is acc [] lt = refl
 pushes_address_is acc (b ∷ bs) lt =
     let le : 2 * acc + to_number b ≤ number_after (2 * acc + to_number b) bs = number_le (2 * acc + to_number b) bs in
     let e : acc % 8388608 ≡ acc = mod-eq_of_lt (omega arith) in
-    ap (λ x. pushes_address (2 * x + to_number b) bs) e ∙ pushes_address_is (2 * acc + to_number b) bs lt
+    rw e (pushes_address_is (2 * acc + to_number b) bs lt)
 
 -- ---- phases that stay
 
-on_ignored : (ident : ℕ) (bs : List Bool) → goes_on ident Ignored bs ≡ Ignored
-on_ignored ident [] = refl
-on_ignored ident (b ∷ bs) = on_ignored ident bs
+-- what holds of both ways of a test
+pub pick : {A : Type 0} (P : A → Type 0) (t : Bool) (x y : A) → P x → P y → P (elim t as (λ _. A) [ true ↦ x | false ↦ y ])
+pick P true x y a b = a
+pick P false x y a b = b
 
-on_enable : (ident : ℕ) (bs : List Bool) → goes_on ident Enable bs ≡ Enable
-on_enable ident [] = refl
-on_enable ident (b ∷ bs) = on_enable ident bs
-
-on_disable : (ident : ℕ) (bs : List Bool) → goes_on ident Disable bs ≡ Disable
-on_disable ident [] = refl
-on_disable ident (b ∷ bs) = on_disable ident bs
+-- a phase that a latch leaves
+pub goes_on_stays : (ident : ℕ) (ph : Phase) → ((b : Bool) → latched ident false false b ph ≡ ph) → (bs : List Bool) → goes_on ident ph bs ≡ ph
+goes_on_stays ident ph stays [] = refl
+goes_on_stays ident ph stays (b ∷ bs) = rw (stays b) (goes_on_stays ident ph stays bs)
 
 -- ---- address bits
 
 -- one more, not the last
 address_more : (ident : ℕ) (acc : Access) (wel b : Bool) (n v : ℕ) → n < 23 →
     latched ident false false b (Address acc wel n v) ≡ Address acc wel (n + 1) (pushed_address v b)
-address_more ident acc wel b n v lt =
-    ap (λ t. elim t as (λ _. Phase) [ true ↦ Address acc wel (n + 1) (pushed_address v b) | false ↦ aimed ident acc wel (pushed_address v b) ]) (lt-ltb n 23 lt)
+address_more ident acc wel b n v lt = rw (lt-ltb n 23 lt, latched)
 
 address_whole : (ident : ℕ) (acc : Access) (wel : Bool) (bs rest : List Bool) (n v : ℕ) → n + length bs ≡ 24 → n < 24 →
     goes_on ident (Address acc wel n v) (bs ++ rest) ≡ goes_on ident (aimed ident acc wel (pushes_address v bs)) rest
-address_whole ident acc wel [] rest n v e lt = absurd (let z : ⊥ = omega arith in z)
-address_whole ident acc wel (b ∷ []) rest n v e lt =
-    let q : n ≡ 23 = omega arith in
-    ap (λ m. goes_on ident (latched ident false false b (Address acc wel m v)) rest) q
+address_whole ident acc wel [] rest n v e lt = absurd (omega arith)
+address_whole ident acc wel (b ∷ []) rest n v e lt = let q : n ≡ 23 = omega arith in rw q
 address_whole ident acc wel (b ∷ b' ∷ bs) rest n v e lt =
     ap (λ ph. goes_on ident ph (b' ∷ (bs ++ rest))) (address_more ident acc wel b n v (omega arith)) ∙
-    address_whole ident acc wel (b' ∷ bs) rest (n + 1) (pushed_address v b) (omega arith) (omega arith)
+    (address_whole ident acc wel (b' ∷ bs) rest (n + 1) (pushed_address v b) (omega arith) (omega arith))
 
 address_short : (ident : ℕ) (acc : Access) (wel : Bool) (bs : List Bool) (n v : ℕ) → n + length bs < 24 →
     goes_on ident (Address acc wel n v) bs ≡ Address acc wel (n + length bs) (pushes_address v bs)
 address_short ident acc wel [] n v lt = ap (λ m. Address acc wel m v) (omega arith)
 address_short ident acc wel (b ∷ bs) n v lt =
-    ap (λ ph. goes_on ident ph bs) (address_more ident acc wel b n v (omega arith)) ∙
-    (address_short ident acc wel bs (n + 1) (pushed_address v b) (omega arith) ∙
-    ap (λ m. Address acc wel m (pushes_address (pushed_address v b) bs)) (omega arith))
+    let e : n + 1 + length bs ≡ n + suc (length bs) = omega arith in
+    rw (address_more ident acc wel b n v (omega arith), address_short ident acc wel bs (n + 1) (pushed_address v b) (omega arith), e)
 
 -- fewer than 24 bits, and 24 with what follows
 pub address_part : (ident : ℕ) (acc : Access) (wel : Bool) (rest : List Bool) → length rest < 24 →
@@ -147,19 +140,16 @@ pub address_part : (ident : ℕ) (acc : Access) (wel : Bool) (rest : List Bool) 
 address_part ident acc wel rest lt =
     let small : number rest < 2 ^ length rest = number_lt rest in
     let le : 2 ^ length rest ≤ 2 ^ 24 = pow-le-pow_right {n = 2} (omega arith) {i = length rest} {j = 24} (omega arith) in
-    address_short ident acc wel rest 0 0 (omega arith) ∙
-    (ap (λ m. Address acc wel m (pushes_address 0 rest)) (omega arith) ∙
-    ap (λ v. Address acc wel (length rest) v) (pushes_address_is 0 rest (omega arith)))
+    let z : 0 + length rest ≡ length rest = omega arith in
+    rw (address_short ident acc wel rest 0 0 (omega arith), z, pushes_address_is 0 rest (omega arith))
 
 pub address_full : (ident : ℕ) (acc : Access) (wel : Bool) (rest : List Bool) → 24 ≤ length rest →
     goes_on ident (Address acc wel 0 0) rest ≡ goes_on ident (aimed ident acc wel (number (take 24 rest))) (drop 24 rest)
 address_full ident acc wel rest ge =
     let l24 : length (take 24 rest) ≡ 24 = length-take-le 24 rest ge in
-    let P : ℕ → Type 0 = λ n. number (take 24 rest) < 2 ^ n in
-    let small : number (take 24 rest) < 16777216 = subst P l24 (number_lt (take 24 rest)) in
+    let small : number (take 24 rest) < 16777216 = rw l24 at (number_lt (take 24 rest)) in
     ap (λ x. goes_on ident (Address acc wel 0 0) x) (sym (take-append-drop 24 rest)) ∙
-    (address_whole ident acc wel (take 24 rest) (drop 24 rest) 0 0 (omega arith) (omega arith) ∙
-    ap (λ v. goes_on ident (aimed ident acc wel v) (drop 24 rest)) (pushes_address_is 0 (take 24 rest) small))
+    rw (address_whole ident acc wel (take 24 rest) (drop 24 rest) 0 0 (omega arith) (omega arith), pushes_address_is 0 (take 24 rest) small)
 
 -- ---- data bits
 
@@ -199,10 +189,10 @@ rolled_is at last n e lt =
     elim (cases_lt at last) [
       | inl l ↦
           let small : (at + 1) % n ≡ at + 1 = mod-eq_of_lt (omega arith) in
-          ap (λ t. elim t as (λ _. ℕ) [ true ↦ at + 1 | false ↦ 0 ]) (lt-ltb at last l) ∙ sym small
+          rw (lt-ltb at last l, small, rolled)
       | inr g ↦
           let q : at + 1 ≡ n = omega arith in
-          ap (λ t. elim t as (λ _. ℕ) [ true ↦ at + 1 | false ↦ 0 ]) (le-ltb at last g) ∙ sym (ap (λ x. x % n) q ∙ mod_self n)
+          rw (le-ltb at last g, q, mod_self n, rolled)
     ]
 
 rolls_cut : (n last : ℕ) → last + 1 ≡ n → (bs : List ℕ) (pg : List (Option ℕ)) (at : ℕ) → n ≤ length pg → at < n →
@@ -213,31 +203,26 @@ rolls_cut n last e (b ∷ bs) pg at le lt =
     let len : length (take n pg) ≡ n = length-take-le n pg le in
     let r : rolled at last ≡ (at + 1) % n = rolled_is at last n e lt in
     let below : (at + 1) % n < n = mod_below (at + 1) n (omega arith) in
-    rolls_cut n last e bs (set pg at (Some b)) (rolled at last) (omega arith) (omega arith) ∙
-    (ap (λ x. placed x (rolled at last) bs) (take-set-lt n pg at (Some b) lt) ∙
-    (ap (λ x. placed (set (take n pg) at (Some b)) x bs) r ∙
-    ap (λ m. placed (set (take n pg) at (Some b)) ((at + 1) % m) bs) (sym len)))
+    rw (rolls_cut n last e bs (set pg at (Some b)) (rolled at last) (omega arith) (omega arith), take-set-lt n pg at (Some b) lt, r, len)
 
 -- fewer than eight bits
 input_more : (ident : ℕ) (t : Target) (wel b : Bool) (start at last k v : ℕ) (got : Got) (pg : List (Option ℕ)) → k < 7 →
     latched ident false false b (Input (sheet t wel start at last k v got pg)) ≡ Input (sheet t wel start at last (k + 1) (pushed v b) got pg)
-input_more ident t wel b start at last k v got pg lt =
-    ap (λ x. Input (elim x as (λ _. Page) [ true ↦ sheet t wel start at last (k + 1) (pushed v b) got pg | false ↦ sheet t wel start (rolled at last) last 0 0 (one_more got) (set pg at (Some (pushed v b))) ])) (lt-ltb k 7 lt)
+input_more ident t wel b start at last k v got pg lt = rw (lt-ltb k 7 lt, filled)
 
 input_part : (ident : ℕ) (t : Target) (wel : Bool) (start at last : ℕ) (got : Got) (pg : List (Option ℕ)) (bs : List Bool) (k v : ℕ) → k + length bs < 8 →
     goes_on ident (Input (sheet t wel start at last k v got pg)) bs ≡ Input (sheet t wel start at last (k + length bs) (pushes v bs) got pg)
 input_part ident t wel start at last got pg [] k v lt = ap (λ n. Input (sheet t wel start at last n v got pg)) (omega arith)
 input_part ident t wel start at last got pg (b ∷ bs) k v lt =
-    ap (λ ph. goes_on ident ph bs) (input_more ident t wel b start at last k v got pg (omega arith)) ∙
-    (input_part ident t wel start at last got pg bs (k + 1) (pushed v b) (omega arith) ∙
-    ap (λ n. Input (sheet t wel start at last n (pushes (pushed v b) bs) got pg)) (omega arith))
+    let e : k + 1 + length bs ≡ k + suc (length bs) = omega arith in
+    rw (input_more ident t wel b start at last k v got pg (omega arith), input_part ident t wel start at last got pg bs (k + 1) (pushed v b) (omega arith), e)
 
 -- some bits over
 input_over : (ident : ℕ) (t : Target) (wel : Bool) (start at last : ℕ) (got : Got) (pg : List (Option ℕ)) (a : Bool) (bs : List Bool) → length bs < 7 →
     goes_on ident (Input (sheet t wel start at last 0 0 got pg)) (a ∷ bs) ≡ Input (sheet t wel start at last (suc (length bs)) (pushes (pushed 0 a) bs) got pg)
 input_over ident t wel start at last got pg a bs lt =
-    input_part ident t wel start at last got pg bs 1 (pushed 0 a) (omega arith) ∙
-    ap (λ n. Input (sheet t wel start at last n (pushes (pushed 0 a) bs) got pg)) (omega arith)
+    let e : 1 + length bs ≡ suc (length bs) = omega arith in
+    rw (input_part ident t wel start at last got pg bs 1 (pushed 0 a) (omega arith), e)
 
 -- eight bits
 abbrev of_eight : (a b c d e f g h : Bool) → ℕ
@@ -247,8 +232,7 @@ input_byte : (ident : ℕ) (t : Target) (wel : Bool) (start at last : ℕ) (got 
     goes_on ident (Input (sheet t wel start at last 0 0 got pg)) (a ∷ b ∷ c ∷ d ∷ e ∷ f ∷ g ∷ h ∷ bs) ≡
     goes_on ident (Input (sheet t wel start (rolled at last) last 0 0 (one_more got) (set pg at (Some (of_eight a b c d e f g h))))) bs
 input_byte ident t wel start at last got pg a b c d e f g h bs =
-    ap (λ v. goes_on ident (Input (sheet t wel start (rolled at last) last 0 0 (one_more got) (set pg at (Some v)))) bs)
-    (pushes_is 0 (a ∷ b ∷ c ∷ d ∷ e ∷ f ∷ g ∷ h ∷ []) (number_lt (a ∷ b ∷ c ∷ d ∷ e ∷ f ∷ g ∷ h ∷ [])))
+    rw (pushes_is 0 (a ∷ b ∷ c ∷ d ∷ e ∷ f ∷ g ∷ h ∷ []) (number_lt (a ∷ b ∷ c ∷ d ∷ e ∷ f ∷ g ∷ h ∷ [])))
 
 -- where data bits lead
 data Led (t : Target) (wel : Bool) (start at last : ℕ) (got : Got) (pg : List (Option ℕ)) (bs : List Bool) (ph : Phase) : Type 0 where
@@ -277,7 +261,7 @@ some_by : {bs : List Bool} → Chunks bs → length bs % 8 ≡ 0 → some_byte (
 some_by done e = refl
 some_by (byte a b c d e f g h {bs} ch) m =
     (some_one (bytes_in bs)).0 ∙ sym (and_from _ _ (le-leb 8 (length (a ∷ b ∷ c ∷ d ∷ e ∷ f ∷ g ∷ h ∷ bs)) (omega arith)) (eq-eqb _ 0 m))
-some_by (ends a bs lt) m = absurd (let z : ⊥ = omega arith in z)
+some_by (ends a bs lt) m = absurd (omega arith)
 
 -- ---- what a phase lists
 
@@ -292,16 +276,15 @@ module _ (p : Shape) (w : Bool) (st lk : ℕ) where
   output_none : (r : Region) (bs : List Bool) (a k : ℕ) → entry p w st lk (goes_on p.ident (Output r a k) bs) ≡ []
   output_none r [] a k = refl
   output_none r (b ∷ bs) a k =
-      elim (ltb k 7) as (λ t. entry p w st lk (goes_on p.ident (elim t as (λ _. Phase) [ true ↦ Output r a (k + 1) | false ↦ Output r ((a + 1) % 4294967296) 0 ]) bs) ≡ [])
-      [ true ↦ output_none r bs a (k + 1) | false ↦ output_none r bs ((a + 1) % 4294967296) 0 ]
+      pick (λ ph. entry p w st lk (goes_on p.ident ph bs) ≡ []) (ltb k 7) _ _ (output_none r bs a (k + 1)) (output_none r bs ((a + 1) % 4294967296) 0)
 
   -- a write with the latch clear
   disabled : (t : Target) (start last : ℕ) (bs : List Bool) (at k v : ℕ) (got : Got) (pg : List (Option ℕ)) →
       entry p w st lk (goes_on p.ident (Input (sheet t false start at last k v got pg)) bs) ≡ []
   disabled t start last [] at k v got pg = refl
   disabled t start last (b ∷ bs) at k v got pg =
-      elim (ltb k 7) as (λ x. entry p w st lk (goes_on p.ident (Input (elim x as (λ _. Page) [ true ↦ sheet t false start at last (k + 1) (pushed v b) got pg | false ↦ sheet t false start (rolled at last) last 0 0 (one_more got) (set pg at (Some (pushed v b))) ])) bs) ≡ [])
-      [ true ↦ disabled t start last bs at (k + 1) (pushed v b) got pg | false ↦ disabled t start last bs (rolled at last) 0 0 (one_more got) (set pg at (Some (pushed v b))) ]
+      pick (λ g. entry p w st lk (goes_on p.ident (Input g) bs) ≡ []) (ltb k 7) _ _
+      (disabled t start last bs at (k + 1) (pushed v b) got pg) (disabled t start last bs (rolled at last) 0 0 (one_more got) (set pg at (Some (pushed v b))))
 
   uneven : (t : Target) (start at last k v : ℕ) (got : Got) (pg : List (Option ℕ)) → entry p w st lk (Input (sheet t true start at last (suc k) v got pg)) ≡ []
   uneven t start at last k v got pg =
@@ -380,13 +363,12 @@ module _ (p : Shape) (w : Bool) (st lk : ℕ) where
 
   ident_read : (wel : Bool) (a : ℕ) (ds : List Bool) → entry p w st lk (goes_on p.ident (aimed p.ident access.ReadIdent wel a) ds) ≡ []
   ident_read wel a ds =
-      elim (a10 a) as (λ z. entry p w st lk (goes_on p.ident (elim z as (λ _. Phase) [ true ↦ Output region.Lock a 0 | false ↦ Output region.Ident a 0 ]) ds) ≡ [])
-      [ true ↦ output_none region.Lock ds a 0 | false ↦ output_none region.Ident ds a 0 ]
+      pick (λ ph. entry p w st lk (goes_on p.ident ph ds) ≡ []) (a10 a) _ _ (output_none region.Lock ds a 0) (output_none region.Ident ds a 0)
 
   ident_disabled : (a : ℕ) (ds : List Bool) → entry p w st lk (goes_on p.ident (aimed p.ident access.WriteIdent false a) ds) ≡ []
   ident_disabled a ds =
-      elim (a10 a) as (λ z. entry p w st lk (goes_on p.ident (elim z as (λ _. Phase) [ true ↦ Input (empty target.Lock false a 0 0) | false ↦ Input (empty target.Ident false a (a % p.ident) (p.ident - 1)) ]) ds) ≡ [])
-      [ true ↦ disabled target.Lock a 0 ds 0 0 0 Nothing (replicate 256 None) | false ↦ disabled target.Ident a (p.ident - 1) ds (a % p.ident) 0 0 Nothing (replicate 256 None) ]
+      pick (λ ph. entry p w st lk (goes_on p.ident ph ds) ≡ []) (a10 a) _ _
+      (disabled target.Lock a 0 ds 0 0 0 Nothing (replicate 256 None)) (disabled target.Ident a (p.ident - 1) ds (a % p.ident) 0 0 Nothing (replicate 256 None))
 
   -- what each write lists, by its address and its data bits
   abbrev written : ℕ → List Bool → List Entry
@@ -402,7 +384,7 @@ module _ (p : Shape) (w : Bool) (st lk : ℕ) where
   ident_or_lock a ds = cond (a10 a) (locked ds) (ident_written a ds)
 
   no_ident_or_lock : (a : ℕ) → ident_or_lock a [] ≡ []
-  no_ident_or_lock a = elim (a10 a) as (λ z. cond z (locked []) (ident_written a []) ≡ []) [ true ↦ refl | false ↦ refl ]
+  no_ident_or_lock a = cond_both (a10 a) (locked []) (ident_written a []) (λ es. es ≡ []) (λ _. refl) (λ _. refl)
 
   write_in : (a : ℕ) (ds : List Bool) → entry p w st lk (goes_on p.ident (aimed p.ident access.Write true a) ds) ≡ written a ds
   write_in a ds =
@@ -423,30 +405,22 @@ module _ (p : Shape) (w : Bool) (st lk : ℕ) where
   status_in : (ds : List Bool) → entry p w st lk (goes_on p.ident (begun true name.Wrsr) ds) ≡ if_so (eqb (length ds) 8 && status_open st w) (wrote (status_at p) (Some (kept (number ds)) ∷ []))
   status_in ds = single target.Status 0 (λ b. status_open st w) (λ b. Some (kept b) ∷ []) None (replicate 255 None) (λ got b. refl) (λ n. refl) (chunks ds)
 
--- what follows the instruction, and its address
-pub drop_eight : (eight rest : List Bool) → length eight ≡ 8 → drop 8 (eight ++ rest) ≡ rest
-drop_eight eight rest e = drop_at eight rest 8 e
-
-pub drop_address : (eight rest : List Bool) → length eight ≡ 8 → drop 32 (eight ++ rest) ≡ drop 24 rest
-drop_address eight rest e = sym (drop-drop 24 8 (eight ++ rest)) ∙ ap (drop 24) (drop_eight eight rest e)
-
--- a function of both
+-- a function of what follows the instruction, and its address
 at_address : (f : ℕ → List Bool → List Entry) (eight rest : List Bool) → length eight ≡ 8 →
     f (number (take 24 rest)) (drop 24 rest) ≡ f (number (take 24 (drop 8 (eight ++ rest)))) (drop 32 (eight ++ rest))
-at_address f eight rest e =
-    sym (ap (λ x. f (number (take 24 x)) (drop 32 (eight ++ rest))) (drop_eight eight rest e) ∙ ap (f (number (take 24 rest))) (drop_address eight rest e))
+at_address f eight rest e = rw (← drop-drop 24 8 (eight ++ rest), drop_at eight rest 8 e)
 
-ident_size : (p : Shape) → Lawful p → (0 < p.ident) × (p.ident ≤ 256)
+pub ident_size : (p : Shape) → Lawful p → (0 < p.ident) × (p.ident ≤ 256)
 ident_size p law = elim law.page [ inl e ↦ (omega arith, omega arith) | inr e ↦ (omega arith, omega arith) ]
 
 -- what a stretch lists when s rises, by its instruction and its bits
 pub stretch_lists : (p : Shape) → Lawful p → (w : Bool) (st lk : ℕ) (wel : Bool) (i : Instruction) (eight rest : List Bool) → length eight ≡ 8 →
     entry p w st lk (goes_on p.ident (begun wel i) rest) ≡ lists p w st lk wel i (eight ++ rest)
-stretch_lists p law w st lk wel name.Wren eight rest e = ap (entry p w st lk) (on_enable p.ident rest)
-stretch_lists p law w st lk wel name.Wrdi eight rest e = ap (entry p w st lk) (on_disable p.ident rest)
+stretch_lists p law w st lk wel name.Wren eight rest e = ap (entry p w st lk) (goes_on_stays p.ident Enable (λ _. refl) rest)
+stretch_lists p law w st lk wel name.Wrdi eight rest e = ap (entry p w st lk) (goes_on_stays p.ident Disable (λ _. refl) rest)
 stretch_lists p law w st lk wel name.Rdsr eight rest e = status_none p w st lk rest 0
 stretch_lists p law w st lk true name.Wrsr eight rest e =
-    status_in p w st lk rest ∙ sym (ap (λ x. if_so (eqb (length x) 8 && status_open st w) (wrote (status_at p) (Some (kept (number x)) ∷ []))) (drop_eight eight rest e))
+    rw (drop_at eight rest 8 e) (status_in p w st lk rest)
 stretch_lists p law w st lk false name.Wrsr eight rest e = disabled p w st lk target.Status 0 0 rest 0 0 0 Nothing (replicate 256 None)
 stretch_lists p law w st lk wel name.Read eight rest e = silent p w st lk access.Read wel (λ a ds. output_none p w st lk region.Array ds a 0) rest
 stretch_lists p law w st lk true name.Write eight rest e =
@@ -459,7 +433,7 @@ stretch_lists p law w st lk true name.WridLid eight rest e =
     at_address (ident_or_lock p w st lk) eight rest e
 stretch_lists p law w st lk false name.WridLid eight rest e = silent p w st lk access.WriteIdent false (ident_disabled p w st lk) rest
 stretch_lists p law w st lk wel name.Rduid eight rest e = silent p w st lk access.ReadUnique wel (λ a ds. output_none p w st lk region.Unique ds a 0) rest
-stretch_lists p law w st lk wel name.Unknown eight rest e = ap (entry p w st lk) (on_ignored p.ident rest)
+stretch_lists p law w st lk wel name.Unknown eight rest e = ap (entry p w st lk) (goes_on_stays p.ident Ignored (λ _. refl) rest)
 
 pub stretch_ignored : (p : Shape) (w : Bool) (st lk : ℕ) (rest : List Bool) → entry p w st lk (goes_on p.ident Ignored rest) ≡ []
-stretch_ignored p w st lk rest = ap (entry p w st lk) (on_ignored p.ident rest)
+stretch_ignored p w st lk rest = ap (entry p w st lk) (goes_on_stays p.ident Ignored (λ _. refl) rest)

@@ -19,7 +19,7 @@ use Rattle.rules.specs.Tables.{named, accepted, a10}
 use Rattle.rules.specs.Rules as rule
 use Rattle.rules.specs.Rules.{View, running, is_off, judged, begun, latched, place, at_rest, pushed, filled, aimed, laid, base, reach, moved, shifted, shift_out, same_shown, closed, counts}
 use Rattle.laws.specs.Journal.{Journal, Noted, unread, noted, Entry, enabled, cycle_runs, byte_of, number}
-use Rattle.laws.proofs.Bits.{goes_on}
+use Rattle.laws.proofs.Bits.{goes_on, pick, goes_on_stays}
 use Rattle.laws.proofs.Regions.{status_phase}
 
 -- the cells as they will be once a running cycle has ended
@@ -77,26 +77,21 @@ pub late_off : (ph : Phase) → late ph ≡ true → is_off ph ≡ false
 late_off Deselected e = cc
 late_off ph e = refl
 
--- what holds of both ways of a test
-pub pick : (P : Phase → Type 0) (t : Bool) (x y : Phase) → P x → P y → P (elim t as (λ _. Phase) [ true ↦ x | false ↦ y ])
-pick P true x y a b = a
-pick P false x y a b = b
-
 late_aimed : (ident : ℕ) (a : Access) (wel : Bool) (v : ℕ) → late (aimed ident a wel v) ≡ true
 late_aimed ident access.Read wel v = refl
 late_aimed ident access.Write wel v = refl
-late_aimed ident access.ReadIdent wel v = pick (λ ph. late ph ≡ true) (a10 v) (Output region.Lock v 0) (Output region.Ident v 0) refl refl
+late_aimed ident access.ReadIdent wel v = pick (λ ph. late ph ≡ true) (a10 v) _ _ refl refl
 late_aimed ident access.WriteIdent wel v =
-    pick (λ ph. late ph ≡ true) (a10 v) (Input (rule.empty target.Lock wel v 0 0)) (Input (rule.empty target.Ident wel v (v % ident) (ident - 1))) refl refl
+    pick (λ ph. late ph ≡ true) (a10 v) _ _ refl refl
 late_aimed ident access.ReadUnique wel v = refl
 
 late_on : (ident : ℕ) (d : Bool) (ph : Phase) → late ph ≡ true → late (latched ident false false d ph) ≡ true
 late_on ident d Deselected e = e
 late_on ident d (Instructing n v) e = cc
 late_on ident d (Address a wel n v) e =
-    pick (λ ph. late ph ≡ true) (ltb n 23) (Address a wel (n + 1) (rule.pushed_address v d)) (aimed ident a wel (rule.pushed_address v d)) refl (late_aimed ident a wel (rule.pushed_address v d))
+    pick (λ ph. late ph ≡ true) (ltb n 23) _ _ refl (late_aimed ident a wel (rule.pushed_address v d))
 late_on ident d (Output r a k) e =
-    pick (λ ph. late ph ≡ true) (ltb k 7) (Output r a (k + 1)) (Output r ((a + 1) % 4294967296) 0) refl refl
+    pick (λ ph. late ph ≡ true) (ltb k 7) _ _ refl refl
 late_on ident d ph e = refl
 
 late_goes : (ident : ℕ) (bs : List Bool) (ph : Phase) → late ph ≡ true → late (goes_on ident ph bs) ≡ true
@@ -121,18 +116,18 @@ sample_aimed : (p : Shape) (cells : List ℕ) (ident : ℕ) (a : Access) (wel : 
 sample_aimed p cells ident access.Read wel v sample sampled = λ e. absurd (both_ways true e refl)
 sample_aimed p cells ident access.Write wel v sample sampled = tt
 sample_aimed p cells ident access.ReadIdent wel v sample sampled =
-    pick (λ ph. SampleOk p cells true ph sample sampled) (a10 v) (Output region.Lock v 0) (Output region.Ident v 0) (λ e. absurd (both_ways true e refl)) (λ e. absurd (both_ways true e refl))
+    pick (λ ph. SampleOk p cells true ph sample sampled) (a10 v) _ _ (λ e. absurd (both_ways true e refl)) (λ e. absurd (both_ways true e refl))
 sample_aimed p cells ident access.WriteIdent wel v sample sampled =
-    pick (λ ph. SampleOk p cells true ph sample sampled) (a10 v) (Input (rule.empty target.Lock wel v 0 0)) (Input (rule.empty target.Ident wel v (v % ident) (ident - 1))) tt tt
+    pick (λ ph. SampleOk p cells true ph sample sampled) (a10 v) _ _ tt tt
 sample_aimed p cells ident access.ReadUnique wel v sample sampled = λ e. absurd (both_ways true e refl)
 
 pub sample_latched : (p : Shape) (cells : List ℕ) (ident : ℕ) (d : Bool) (ph : Phase) (sample sampled : ℕ) → late ph ≡ true → SampleOk p cells false ph sample sampled → SampleOk p cells true (latched ident false false d ph) sample sampled
 sample_latched p cells ident d (Instructing n v) sample sampled e h = cc
 sample_latched p cells ident d (Status k) sample sampled e h = h
 sample_latched p cells ident d (Address a wel n v) sample sampled e h =
-    pick (λ ph. SampleOk p cells true ph sample sampled) (ltb n 23) (Address a wel (n + 1) (rule.pushed_address v d)) (aimed ident a wel (rule.pushed_address v d)) tt (sample_aimed p cells ident a wel (rule.pushed_address v d) sample sampled)
+    pick (λ ph. SampleOk p cells true ph sample sampled) (ltb n 23) _ _ tt (sample_aimed p cells ident a wel (rule.pushed_address v d) sample sampled)
 sample_latched p cells ident d (Output r a k) sample sampled e h =
-    pick (λ ph. SampleOk p cells true ph sample sampled) (ltb k 7) (Output r a (k + 1)) (Output r ((a + 1) % 4294967296) 0) (λ _. h refl) (λ z. cc)
+    pick (λ ph. SampleOk p cells true ph sample sampled) (ltb k 7) _ _ (λ _. h refl) (λ z. cc)
 sample_latched p cells ident d ph sample sampled e h = tt
 
 -- an instruction that is accepted while a cycle runs is RDSR
@@ -140,13 +135,9 @@ pub only_rdsr : (i : Instruction) → accepted true i ≡ true → i ≡ name.Rd
 only_rdsr name.Rdsr e = refl
 only_rdsr i e = cc
 
-pub ignored_on : (ident : ℕ) (bs : List Bool) → goes_on ident Ignored bs ≡ Ignored
-ignored_on ident [] = refl
-ignored_on ident (b ∷ bs) = ignored_on ident bs
-
 -- in a cycle a stretch that is judged is ignored or reads the status
 pub calm : (ident : ℕ) (a wel : Bool) (i : Instruction) (rest : List Bool) → (a ≡ true → accepted true i ≡ true) →
     (goes_on ident (judged a wel i) rest ≡ Ignored) ⊎ (goes_on ident (judged a wel i) rest ≡ Status (length rest % 8))
-calm ident false wel i rest ok = inl (ignored_on ident rest)
+calm ident false wel i rest ok = inl (goes_on_stays ident Ignored (λ _. refl) rest)
 calm ident true wel i rest ok =
     inr (ap (λ x. goes_on ident (begun wel x) rest) (only_rdsr i (ok refl)) ∙ status_phase ident rest)

@@ -20,9 +20,9 @@ use Rattle.rules.specs.Tables.{a10, status_byte, bit_of, level_of}
 use Rattle.rules.specs.Rules as rule
 use Rattle.rules.specs.Rules.{View, running, judged, begun, latched, place, aimed, filled, shifted, shift_out, same_shown}
 use Rattle.laws.specs.Journal.{Entry, enabled, cycle_runs, byte_of, number, address, read_place, read_bit, puts_out, samples}
-use Rattle.laws.proofs.Bits.{goes_on, number_lt, address_part, address_full}
+use Rattle.laws.proofs.Bits.{goes_on, pick, goes_on_stays, number_lt, address_part, address_full}
 use Rattle.laws.proofs.Regions.{status_phase, output_phase, read_place_is}
-use Rattle.laws.proofs.Keeps.{pick, vw, Mem, SampleOk, ignored_on}
+use Rattle.laws.proofs.Keeps.{vw, Mem, SampleOk}
 
 -- phases that put nothing out
 abbrev silent : Phase → Bool
@@ -43,17 +43,6 @@ silent_sample p cells due (Status k) sample sampled e = cc
 silent_sample p cells due (Output r a k) sample sampled e = cc
 silent_sample p cells due ph sample sampled e = tt
 
-silent_enable : (ident : ℕ) (rest : List Bool) → silent (goes_on ident Enable rest) ≡ true
-silent_enable ident [] = refl
-silent_enable ident (b ∷ rest) = silent_enable ident rest
-
-silent_disable : (ident : ℕ) (rest : List Bool) → silent (goes_on ident Disable rest) ≡ true
-silent_disable ident [] = refl
-silent_disable ident (b ∷ rest) = silent_disable ident rest
-
-silent_ignored : (ident : ℕ) (rest : List Bool) → silent (goes_on ident Ignored rest) ≡ true
-silent_ignored ident rest = ap silent (ignored_on ident rest)
-
 silent_input : (ident : ℕ) (g : Page) (rest : List Bool) → silent (goes_on ident (Input g) rest) ≡ true
 silent_input ident g [] = refl
 silent_input ident g (b ∷ rest) = silent_input ident (filled g b) rest
@@ -65,7 +54,7 @@ Writes ident acc = (wel : Bool) (a : ℕ) (rest : List Bool) → silent (goes_on
 silent_address : (ident : ℕ) (acc : Access) → Writes ident acc → (rest : List Bool) (wel : Bool) (n v : ℕ) → silent (goes_on ident (Address acc wel n v) rest) ≡ true
 silent_address ident acc h [] wel n v = refl
 silent_address ident acc h (b ∷ rest) wel n v =
-    pick (λ ph. silent (goes_on ident ph rest) ≡ true) (ltb n 23) (Address acc wel (n + 1) (rule.pushed_address v b)) (aimed ident acc wel (rule.pushed_address v b))
+    pick (λ ph. silent (goes_on ident ph rest) ≡ true) (ltb n 23) _ _
     (silent_address ident acc h rest wel (n + 1) (rule.pushed_address v b)) (h wel (rule.pushed_address v b) rest)
 
 write_writes : (ident : ℕ) → Writes ident access.Write
@@ -73,7 +62,7 @@ write_writes ident wel a rest = silent_input ident (rule.empty target.Array wel 
 
 ident_writes : (ident : ℕ) → Writes ident access.WriteIdent
 ident_writes ident wel a rest =
-    pick (λ ph. silent (goes_on ident ph rest) ≡ true) (a10 a) (Input (rule.empty target.Lock wel a 0 0)) (Input (rule.empty target.Ident wel a (a % ident) (ident - 1)))
+    pick (λ ph. silent (goes_on ident ph rest) ≡ true) (a10 a) _ _
     (silent_input ident (rule.empty target.Lock wel a 0 0) rest) (silent_input ident (rule.empty target.Ident wel a (a % ident) (ident - 1)) rest)
 
 -- the output side after a shifting fall, and that its sample is in order
@@ -239,8 +228,8 @@ module _ (p : Shape) (law : Lawful p) (birth : List ℕ) (es : List Entry) (cy :
     -- by the instruction
     pub outs : (i : Instruction) → SampleOk p cells true (goes_on p.ident (begun wel i) rest) sample sampled →
         Shifts p v held (goes_on p.ident (begun wel i) rest) (puts_out p byte (samples status sampled i bits) i bits last) (samples status sampled i bits)
-    outs name.Wren so = stays p v held _ sampled (silent_enable p.ident rest)
-    outs name.Wrdi so = stays p v held _ sampled (silent_disable p.ident rest)
+    outs name.Wren so = stays p v held _ sampled (ap silent (goes_on_stays p.ident Enable (λ _. refl) rest))
+    outs name.Wrdi so = stays p v held _ sampled (ap silent (goes_on_stays p.ident Disable (λ _. refl) rest))
     outs name.Rdsr so = rdsr_out so
     outs name.Wrsr so = stays p v held _ sampled (silent_input p.ident (rule.empty target.Status wel 0 0 0) rest)
     outs name.Read so = read_any name.Read access.Read region.Array refl (λ j. (read_place_is p law (number (take 24 rest)) j).0) array_below so
@@ -248,7 +237,7 @@ module _ (p : Shape) (law : Lawful p) (birth : List ℕ) (es : List Entry) (cy :
     outs name.RdidRdls so = ident_out (a10 (number (take 24 rest))) refl so
     outs name.WridLid so = stays p v held _ sampled (silent_address p.ident access.WriteIdent (ident_writes p.ident) rest wel 0 0)
     outs name.Rduid so = read_any name.Rduid access.ReadUnique region.Unique refl (λ j. (read_place_is p law (number (take 24 rest)) j).2) unique_below so
-    outs name.Unknown so = stays p v held _ sampled (silent_ignored p.ident rest)
+    outs name.Unknown so = stays p v held _ sampled (ap silent (goes_on_stays p.ident Ignored (λ _. refl) rest))
 
     pub ignores : Shifts p v held (goes_on p.ident Ignored rest) last sampled
-    ignores = stays p v held _ sampled (silent_ignored p.ident rest)
+    ignores = stays p v held _ sampled (ap silent (goes_on_stays p.ident Ignored (λ _. refl) rest))

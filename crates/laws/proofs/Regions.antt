@@ -35,12 +35,10 @@ output_here r a k small lt =
     sym (ap (λ x. Output r (x % 4294967296) ((k + 0) % 8)) none ∙ (ap (λ x. Output r x ((k + 0) % 8)) e ∙ ap (Output r a) bit))
 
 output_more : (ident : ℕ) (r : Region) (b : Bool) (a k : ℕ) → k < 7 → latched ident false false b (Output r a k) ≡ Output r a (k + 1)
-output_more ident r b a k lt =
-    ap (λ t. elim t as (λ _. Phase) [ true ↦ Output r a (k + 1) | false ↦ Output r ((a + 1) % 4294967296) 0 ]) (lt-ltb k 7 lt)
+output_more ident r b a k lt = rw (lt-ltb k 7 lt, latched)
 
 output_next : (ident : ℕ) (r : Region) (b : Bool) (a k : ℕ) → 7 ≤ k → latched ident false false b (Output r a k) ≡ Output r ((a + 1) % 4294967296) 0
-output_next ident r b a k ge =
-    ap (λ t. elim t as (λ _. Phase) [ true ↦ Output r a (k + 1) | false ↦ Output r ((a + 1) % 4294967296) 0 ]) (le-ltb k 7 ge)
+output_next ident r b a k ge = rw (le-ltb k 7 ge, latched)
 
 output_from : (ident : ℕ) (r : Region) (bs : List Bool) (a k : ℕ) → a < 4294967296 → k < 8 → goes_on ident (Output r a k) bs ≡ output_after r a (k + length bs)
 output_from ident r [] a k small lt = output_here r a k small lt
