@@ -299,13 +299,9 @@ module _ (p : Shape) (w : Bool) (st lk : ℕ) where
       elim (led p.ident t true start last ch at Nothing pg) [
         | whole at' e q ↦
             let P : List (Option ℕ) = rolls_in pg at last (bytes_in bs) in
-            let g : Got = gots Nothing (bytes_in bs) in
-            ap (entry p w st lk) q ∙ (ap (λ z. if_so z (wrote (base p t start) (laid_by t P))) (cs g (head_byte P)) ∙
-            (ap (λ z. if_so (z && x) (wrote (base p t start) (laid_by t P))) (some_by ch e) ∙
-            ap (λ z. if_so (whole_bytes bs && x) (wrote (base p t start) z)) (ls P ∙ rolls_cut n last en (bytes_in bs) pg at le lt)))
+            rw (q, cs (gots Nothing (bytes_in bs)) (head_byte P), some_by ch e, ls P, rolls_cut n last en (bytes_in bs) pg at le lt)
         | ragged at' k v got' pg' ne q ↦
-            ap (entry p w st lk) q ∙ (uneven t start at' last k v got' pg' ∙
-            sym (ap (λ z. if_so (z && x) (wrote (base p t start) (placed (take n pg) at (bytes_in bs)))) (and_right (leb 8 (length bs)) (eqb (length bs % 8) 0) (ne_eqb (length bs % 8) 0 ne))))
+            rw (q, uneven t start at' last k v got' pg', and_right (leb 8 (length bs)) (eqb (length bs % 8) 0) (ne_eqb (length bs % 8) 0 ne))
       ]
 
   -- the targets of one byte: y is what they ask of it besides, l what they lay
@@ -313,37 +309,31 @@ module _ (p : Shape) (w : Bool) (st lk : ℕ) where
       ((got : Got) (b : ℕ) → allowed p w st lk t start got b ≡ (one_byte got && y b)) → ((n : ℕ) → laid_by t (Some n ∷ os) ≡ l n) →
       {bs : List Bool} → Chunks bs →
       entry p w st lk (goes_on p.ident (Input (sheet t true start 0 0 0 0 Nothing (o ∷ os))) bs) ≡ if_so (eqb (length bs) 8 && y (number bs)) (wrote (base p t start) (l (number bs)))
-  single t start y l o os cs ls done = ap (λ z. if_so z (wrote (base p t start) (laid_by t (o ∷ os)))) (cs Nothing (head_byte (o ∷ os)))
+  single t start y l o os cs ls done = rw (cs Nothing (head_byte (o ∷ os)))
   single t start y l o os cs ls (byte a b c d e f g h done) =
       let n : ℕ = of_eight a b c d e f g h in
-      ap (entry p w st lk) (input_byte p.ident t true start 0 0 Nothing (o ∷ os) a b c d e f g h []) ∙
-      (ap (λ z. if_so z (wrote (base p t start) (laid_by t (Some n ∷ os)))) (cs One n) ∙ ap (λ z. if_so (y n) (wrote (base p t start) z)) (ls n))
+      ap (entry p w st lk) (input_byte p.ident t true start 0 0 Nothing (o ∷ os) a b c d e f g h []) ∙ rw (cs One n, ls n)
   single t start y l o os cs ls (byte a b c d e f g h (byte a' b' c' d' e' f' g' h' {bs} ch)) =
       let n : ℕ = of_eight a b c d e f g h in
       let n' : ℕ = of_eight a' b' c' d' e' f' g' h' in
       let all : List Bool = a ∷ b ∷ c ∷ d ∷ e ∷ f ∷ g ∷ h ∷ a' ∷ b' ∷ c' ∷ d' ∷ e' ∷ f' ∷ g' ∷ h' ∷ bs in
-      let no8 : eqb (length all) 8 ≡ false = ne_eqb (length all) 8 (omega arith) in
-      let right : if_so (eqb (length all) 8 && y (number all)) (wrote (base p t start) (l (number all))) ≡ [] = ap (λ z. if_so (z && y (number all)) (wrote (base p t start) (l (number all)))) no8 in
-      ap (entry p w st lk) (input_byte p.ident t true start 0 0 Nothing (o ∷ os) a b c d e f g h (a' ∷ b' ∷ c' ∷ d' ∷ e' ∷ f' ∷ g' ∷ h' ∷ bs) ∙
-      input_byte p.ident t true start 0 0 One (Some n ∷ os) a' b' c' d' e' f' g' h' bs) ∙
-      elim (led p.ident t true start 0 ch 0 More (Some n' ∷ os)) [
+      ap (entry p w st lk) (input_byte p.ident t true start 0 0 Nothing (o ∷ os) a b c d e f g h (a' ∷ b' ∷ c' ∷ d' ∷ e' ∷ f' ∷ g' ∷ h' ∷ bs)
+      ∙ input_byte p.ident t true start 0 0 One (Some n ∷ os) a' b' c' d' e' f' g' h' bs)
+      ∙ rw (ne_eqb (length all) 8 (omega arith))
+      (elim (led p.ident t true start 0 ch 0 More (Some n' ∷ os)) [
         | whole at' ev q ↦
             let P : List (Option ℕ) = rolls_in (Some n' ∷ os) 0 0 (bytes_in bs) in
-            ap (entry p w st lk) q ∙ (ap (λ z. if_so z (wrote (base p t start) (laid_by t P))) (cs (gots More (bytes_in bs)) (head_byte P)) ∙
-            (ap (λ z. if_so (z && y (head_byte P)) (wrote (base p t start) (laid_by t P))) (single_more (bytes_in bs)) ∙ sym right))
-        | ragged at' k v got' pg' ne q ↦ ap (entry p w st lk) q ∙ (uneven t start at' 0 k v got' pg' ∙ sym right)
-      ]
+            rw (q, cs (gots More (bytes_in bs)) (head_byte P), single_more (bytes_in bs))
+        | ragged at' k v got' pg' ne q ↦ rw q (uneven t start at' 0 k v got' pg')
+      ])
   single t start y l o os cs ls (byte a b c d e f g h (ends a' bs lt)) =
       let all : List Bool = a ∷ b ∷ c ∷ d ∷ e ∷ f ∷ g ∷ h ∷ a' ∷ bs in
       let n : ℕ = of_eight a b c d e f g h in
-      let no8 : eqb (length all) 8 ≡ false = ne_eqb (length all) 8 (omega arith) in
-      ap (entry p w st lk) (input_byte p.ident t true start 0 0 Nothing (o ∷ os) a b c d e f g h (a' ∷ bs) ∙ input_over p.ident t true start 0 0 One (Some n ∷ os) a' bs lt) ∙
-      (uneven t start 0 0 (length bs) (pushes (pushed 0 a') bs) One (Some n ∷ os) ∙ sym (ap (λ z. if_so (z && y (number all)) (wrote (base p t start) (l (number all)))) no8))
+      ap (entry p w st lk) (input_byte p.ident t true start 0 0 Nothing (o ∷ os) a b c d e f g h (a' ∷ bs) ∙ input_over p.ident t true start 0 0 One (Some n ∷ os) a' bs lt)
+      ∙ rw (ne_eqb (length all) 8 (omega arith)) (uneven t start 0 0 (length bs) (pushes (pushed 0 a') bs) One (Some n ∷ os))
   single t start y l o os cs ls (ends a bs lt) =
-      let all : List Bool = a ∷ bs in
-      let no8 : eqb (length all) 8 ≡ false = ne_eqb (length all) 8 (omega arith) in
-      ap (entry p w st lk) (input_over p.ident t true start 0 0 Nothing (o ∷ os) a bs lt) ∙
-      (uneven t start 0 0 (length bs) (pushes (pushed 0 a) bs) Nothing (o ∷ os) ∙ sym (ap (λ z. if_so (z && y (number all)) (wrote (base p t start) (l (number all)))) no8))
+      ap (entry p w st lk) (input_over p.ident t true start 0 0 Nothing (o ∷ os) a bs lt)
+      ∙ rw (ne_eqb (length (a ∷ bs)) 8 (omega arith)) (uneven t start 0 0 (length bs) (pushes (pushed 0 a) bs) Nothing (o ∷ os))
 
   -- an instruction with an address, by what it does at each address
   by_address : (acc : Access) (wel : Bool) (f : ℕ → List Bool → List Entry) → ((a : ℕ) → f a [] ≡ []) →
@@ -351,10 +341,8 @@ module _ (p : Shape) (w : Bool) (st lk : ℕ) where
       (rest : List Bool) → entry p w st lk (goes_on p.ident (Address acc wel 0 0) rest) ≡ f (number (take 24 rest)) (drop 24 rest)
   by_address acc wel f none each rest =
       elim (cases_lt (length rest) 24) [
-        | inl lt ↦
-            ap (entry p w st lk) (address_part p.ident acc wel rest lt) ∙
-            sym (ap (f (number (take 24 rest))) (drop_all 24 rest (omega arith)) ∙ none (number (take 24 rest)))
-        | inr ge ↦ ap (entry p w st lk) (address_full p.ident acc wel rest ge) ∙ each (number (take 24 rest)) (drop 24 rest)
+        | inl lt ↦ rw (address_part p.ident acc wel rest lt, drop_all 24 rest (omega arith), none (number (take 24 rest)))
+        | inr ge ↦ rw (address_full p.ident acc wel rest ge) (each (number (take 24 rest)) (drop 24 rest))
       ]
 
   silent : (acc : Access) (wel : Bool) → ((a : ℕ) (ds : List Bool) → entry p w st lk (goes_on p.ident (aimed p.ident acc wel a) ds) ≡ []) →

@@ -20,7 +20,7 @@ use Rattle.rules.specs.Tables.{a10, status_byte, bit_of, level_of}
 use Rattle.rules.specs.Rules as rule
 use Rattle.rules.specs.Rules.{View, running, judged, begun, latched, place, aimed, filled, shifted, shift_out, same_shown}
 use Rattle.laws.specs.Journal.{Entry, enabled, cycle_runs, byte_of, number, address, read_place, read_bit, puts_out, samples}
-use Rattle.laws.proofs.Bits.{goes_on, pick, goes_on_stays, number_lt, address_part, address_full}
+use Rattle.laws.proofs.Bits.{goes_on, pick, goes_on_stays, number_lt, address_part, address_full, ident_size}
 use Rattle.laws.proofs.Regions.{status_phase, output_phase, read_place_is}
 use Rattle.laws.proofs.Keeps.{vw, Mem, SampleOk}
 
@@ -107,11 +107,6 @@ region_out p v held r a k sampled so =
       sample_is = λ _. refl;
     }
 
--- the same at another term for the phase, or for what comes out
-at_phase : (p : Shape) (v : View) (held : Bool) (ph ph' : Phase) (last last' : Level) (sampled : ℕ) → ph ≡ ph' → last ≡ last' → Shifts p v held ph last sampled → Shifts p v held ph' last' sampled
-at_phase p v held ph ph' last last' sampled e f s =
-    subst (λ x. Shifts p v held ph' x sampled) f (subst (λ x. Shifts p v held x last sampled) e s)
-
 module _ (p : Shape) (law : Lawful p) (birth : List ℕ) (es : List Entry) (cy : Cycle) (cells : List ℕ) (m : Mem p birth es cy cells) where
   abbrev pub byte : ℕ → ℕ
   byte i = byte_of birth i false es
@@ -139,9 +134,7 @@ module _ (p : Shape) (law : Lawful p) (birth : List ℕ) (es : List Entry) (cy :
     -- an address that is not whole puts nothing out
     read_none : (i : Instruction) (acc : Access) → length rest < 24 → Shifts p v held (goes_on p.ident (Address acc wel 0 0) rest) (read_bit p byte i bits last) sampled
     read_none i acc lt =
-        at_phase p v held (Address acc wel (length rest) (number rest)) _ last _ sampled
-        (sym (address_part p.ident acc wel rest lt))
-        (sym (ap (λ t. cond t (level_of (bit_of (byte (read_place p i (address bits) ((length bits - 32) / 8))) ((length bits - 32) % 8))) last) (lt-leb 32 (length bits) (omega (arith, len)))))
+        rw (address_part p.ident acc wel rest lt, lt-leb 32 (length bits) (omega (arith, len)))
         (stays p v held (Address acc wel (length rest) (number rest)) sampled refl)
 
     -- a whole one: r is the region
@@ -155,19 +148,13 @@ module _ (p : Shape) (law : Lawful p) (birth : List ℕ) (es : List Entry) (cy :
         let A : ℕ = (a + length ds / 8) % 4294967296 in
         let dl : length ds ≡ length bits - 32 = length-drop 24 rest ∙ omega (arith, len) in
         let l24 : length (take 24 rest) ≡ 24 = length-take-le 24 rest ge in
-        let small : a < 4294967296 = under a (subst (λ n. a < 2 ^ n) l24 (number_lt (take 24 rest))) in
+        let n24 = rw l24 at (number_lt (take 24 rest)) in
         let phase : goes_on p.ident (Address acc wel 0 0) rest ≡ Output r A (length ds % 8) =
-        address_full p.ident acc wel rest ge ∙ ap (λ x. goes_on p.ident x ds) aim ∙ output_phase p.ident r a ds small in
+        address_full p.ident acc wel rest ge ∙ ap (λ x. goes_on p.ident x ds) aim ∙ output_phase p.ident r a ds (omega arith) in
         let cell : get_or cells (place p r A) 0 ≡ byte (read_place p i (address bits) ((length bits - 32) / 8)) =
-        m.now_is (place p r A) (below A) ∙ ap byte (at (length ds / 8) ∙ ap (λ n. read_place p i a (n / 8)) dl ∙ ap (λ x. read_place p i x ((length bits - 32) / 8)) (sym address_is)) in
-        at_phase p v held (Output r A (length ds % 8)) _ _ _ sampled (sym phase)
-        (ap (λ x. level_of (bit_of x (length ds % 8))) cell
-        ∙ ap (λ n. level_of (bit_of (byte (read_place p i (address bits) ((length bits - 32) / 8))) (n % 8))) dl
-        ∙ sym (ap (λ t. cond t (level_of (bit_of (byte (read_place p i (address bits) ((length bits - 32) / 8))) ((length bits - 32) % 8))) last) (le-leb 32 (length bits) (omega (arith, len)))))
-        (region_out p v held r A (length ds % 8) sampled (subst (λ x. SampleOk p cells true x sample sampled) phase so))
-      where
-        under : (x : ℕ) → x < 2 ^ 24 → x < 4294967296
-        under x h = omega arith
+        rw (← dl, address_is, ← at (length ds / 8)) (m.now_is (place p r A) (below A)) in
+        rw (phase, le-leb 32 (length bits) (omega (arith, len)), ← cell, ← dl)
+        (region_out p v held r A (length ds % 8) sampled (rw phase at so))
 
     -- either
     read_any : (i : Instruction) (acc : Access) (r : Region) → aimed p.ident acc wel (number (take 24 rest)) ≡ Output r (number (take 24 rest)) 0 →
@@ -178,52 +165,30 @@ module _ (p : Shape) (law : Lawful p) (birth : List ℕ) (es : List Entry) (cy :
         elim (cases_lt (length rest) 24) [ inl lt ↦ read_none i acc lt | inr ge ↦ read_some i acc r aim at below ge so ]
 
     array_below : (x : ℕ) → x % array_len p < cell_count p
-    array_below x = within (x % array_len p) (array_len p) p.ident (mod-lt x (pow_pos p.bits))
-      where
-        within : (r n i : ℕ) → r < n → r < n + i + 18
-        within r n i h = omega arith
-
-    some_ident : 0 < p.ident
-    some_ident = elim law.page [ inl e ↦ omega (arith, e) | inr e ↦ omega (arith, e) ]
+    array_below x = let lt : x % array_len p < array_len p = mod-lt x (pow_pos p.bits) in omega arith
 
     ident_below : (x : ℕ) → ident_at p + x % p.ident < cell_count p
-    ident_below x = within (x % p.ident) (array_len p) p.ident (mod-lt x some_ident)
-      where
-        within : (r n i : ℕ) → r < i → n + r < n + i + 18
-        within r n i h = omega arith
+    ident_below x = let lt : x % p.ident < p.ident = mod-lt x (ident_size p law).0 in omega arith
 
     unique_below : (x : ℕ) → unique_at p + x % 16 < cell_count p
-    unique_below x = within (x % 16) (unique_at p) (mod-lt x (omega arith))
-      where
-        within : (r n : ℕ) → r < 16 → n + r < n + 18
-        within r n h = omega arith
+    unique_below x = omega arith
 
     ident_out : (t : Bool) → a10 (number (take 24 rest)) ≡ t → SampleOk p cells true (goes_on p.ident (Address access.ReadIdent wel 0 0) rest) sample sampled →
         Shifts p v held (goes_on p.ident (Address access.ReadIdent wel 0 0) rest) (read_bit p byte name.RdidRdls bits last) sampled
-    ident_out true e so =
-        let a : ℕ = number (take 24 rest) in
-        read_any name.RdidRdls access.ReadIdent region.Lock
-        (ap (λ t. elim t as (λ _. Phase) [ true ↦ Output region.Lock a 0 | false ↦ Output region.Ident a 0 ]) e)
-        (λ j. sym (ap (λ t. cond t (lock_at p) (ident_at p + (a + j) % p.ident)) e)) (λ x. omega arith) so
+    ident_out true e so = read_any name.RdidRdls access.ReadIdent region.Lock (rw (e, aimed)) (λ j. rw e) (λ x. omega arith) so
     ident_out false e so =
-        let a : ℕ = number (take 24 rest) in
-        read_any name.RdidRdls access.ReadIdent region.Ident
-        (ap (λ t. elim t as (λ _. Phase) [ true ↦ Output region.Lock a 0 | false ↦ Output region.Ident a 0 ]) e)
-        (λ j. (read_place_is p law a j).1 ∙ sym (ap (λ t. cond t (lock_at p) (ident_at p + (a + j) % p.ident)) e)) ident_below so
+        read_any name.RdidRdls access.ReadIdent region.Ident (rw (e, aimed)) (λ j. rw e (read_place_is p law (number (take 24 rest)) j).1) ident_below so
 
     status_now : status_byte (get_or cells (status_at p) 0) (enabled es) (running cy) ≡ status
     unfolding status
-    status_now =
-        ap (λ b. status_byte b (enabled es) (running cy)) (m.now_is (status_at p) (omega arith))
-        ∙ ap (λ r. status_byte (byte (status_at p)) (enabled es) r) m.run_is
+    status_now = rw (m.now_is (status_at p) (omega arith), m.run_is)
 
     rdsr_out : SampleOk p cells true (goes_on p.ident (Status 0) rest) sample sampled →
         Shifts p v held (goes_on p.ident (Status 0) rest) (level_of (bit_of (cond (eqb ((length bits - 8) % 8) 0) status sampled) ((length bits - 8) % 8))) (cond (eqb ((length bits - 8) % 8) 0) status sampled)
     rdsr_out so =
         let k : length rest % 8 ≡ (length bits - 8) % 8 = ap (λ n. n % 8) (omega (arith, len)) in
         let phase : goes_on p.ident (Status 0) rest ≡ Status ((length bits - 8) % 8) = status_phase p.ident rest ∙ ap Status k in
-        subst (λ x. Shifts p v held x (level_of (bit_of (cond (eqb ((length bits - 8) % 8) 0) status sampled) ((length bits - 8) % 8))) (cond (eqb ((length bits - 8) % 8) 0) status sampled)) (sym phase)
-        (status_out p v held ((length bits - 8) % 8) sampled status (subst (λ x. SampleOk p cells true x sample sampled) phase so) status_now)
+        rw phase (status_out p v held ((length bits - 8) % 8) sampled status (rw phase at so) status_now)
 
     -- by the instruction
     pub outs : (i : Instruction) → SampleOk p cells true (goes_on p.ident (begun wel i) rest) sample sampled →
