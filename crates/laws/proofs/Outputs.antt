@@ -1,5 +1,5 @@
 -- A shifting fall of C puts out what the journal says.
-use Rattle.std.proofs.Common.{◌≡◌, ℕ, ◌+◌, ◌-◌, ◌/◌, ◌%◌, ◌^◌, ◌<◌, ◌≤◌, Bool, true, false, cond, eqb, ltb, List, [], ◌∷◌, ◌++◌, length, get_or, take, drop, sym, refl, ap, ◌∙◌, subst, inl, inr, mod-lt, arith, length-append, pow_pos}
+use Rattle.std.proofs.Common.{◌≡◌, ℕ, ◌+◌, ◌-◌, ◌/◌, ◌%◌, ◌<◌, ◌≤◌, Bool, true, false, cond, eqb, ltb, List, [], ◌∷◌, ◌++◌, length, get_or, take, drop, refl, ap, ◌∙◌, inl, inr, mod-lt, arith, length-append, pow_pos}
 use Rattle.std.proofs.lemmas.Bool.{le-leb, lt-leb, cases_lt}
 use Rattle.std.proofs.lemmas.List.{drop_at, length-drop, length-take-le}
 use Rattle.rules.specs.declared.state.Level.{Level}
@@ -15,7 +15,7 @@ use Rattle.rules.specs.declared.state.Page.{Page}
 use Rattle.rules.specs.declared.state.Cycle.{Cycle}
 use Rattle.rules.specs.declared.state.Phase.{Phase}
 use Rattle.rules.specs.declared.state.Phase.TheVariants.{Deselected, Instruction as Instructing, Ignored, Enable, Disable, Status, Address, Output, Input}
-use Rattle.rules.specs.Shape.{Shape, Lawful, array_len, ident_at, unique_at, status_at, lock_at, cell_count}
+use Rattle.rules.specs.Shape.{Shape, Lawful, array_len, ident_at, unique_at, status_at, cell_count}
 use Rattle.rules.specs.Tables.{a10, status_byte, bit_of, level_of}
 use Rattle.rules.specs.Rules as rule
 use Rattle.rules.specs.Rules.{View, running, judged, begun, latched, place, aimed, filled, shifted, shift_out, same_shown}
