@@ -1,11 +1,10 @@
 -- The laws over whole runs.
-use Rattle.std.proofs.Common.{◌≡◌, ℕ, suc, ◌+◌, ◌*◌, ◌/◌, ◌%◌, ◌<◌, ◌≤◌, true, false, ltb, List, [], ◌∷◌, ◌++◌, length, get_or, take, drop, Some, None, Ok, Err, Option, sym, refl, ap, ◌∙◌, subst, inl, inr, arith, lit<, length-take}
-use Rattle.std.proofs.lemmas.Bool.{eq-eqb, le-ltb, cases_lt, both_ways}
+use Rattle.std.proofs.Common.{◌≡◌, ℕ, suc, ◌+◌, ◌*◌, ◌/◌, ◌%◌, ◌<◌, ◌≤◌, false, List, [], ◌∷◌, ◌++◌, length, get_or, take, drop, Some, None, Ok, Err, Option, sym, refl, ap, ◌∙◌, subst, inl, inr, arith, lit<, length-take}
+use Rattle.std.proofs.lemmas.Bool.{eq-eqb, le-ltb, cases_lt}
 use Rattle.std.proofs.lemmas.List.{get_or-take, get_or_past, ext_get_or, length-append, length-drop, length-take-le, drop_all, drop_at}
 use Rattle.backing.specs.Faults.{raised}
 use Rattle.backing.specs.Rows.{Bytes}
 use Rattle.backing.specs.declared.refusal.Refusal.{Refusal}
-use Rattle.backing.specs.declared.refusal.Refusal.TheVariants.{OddLength, ShortAnswers}
 use Rattle.backing.specs.declared.fault.Fault.{Fault}
 use Rattle.rules.specs.declared.state.Phase.TheVariants.{Deselected}
 use Rattle.rules.specs.Shape.{Shape, Lawful, cell_count}
@@ -18,7 +17,6 @@ use Rattle.laws.specs.Journal.{Journal, blank, enabled, cell, noted_call, journa
 use Rattle.laws.specs.Journal as note
 use Rattle.laws.specs.Laws as law
 use Rattle.laws.specs.Laws.{Action, send, call_of, answers, as_number, first_of, journal_says, journal_answers, chip_after, Telling, tells_more, journal_tells, told_first, journal_capture, AnswersStand, CapturesStand, Cells, CellsStand, CopiesStand, journal_copy, UnfitStand, RefusedEventStands, ahead_of, RefusedCapture, RefusedCaptureStands, AtRest, Alike, Agree, Sameness, SamenessStands}
-use Rattle.laws.proofs.Bits.{goes_on}
 use Rattle.laws.proofs.Keeps.{Tracks, tracks, resting, young, old, late_off, late_old}
 use Rattle.laws.proofs.Sound.{SoundList, byte_by}
 use Rattle.laws.proofs.Plain.{fit_says}
@@ -35,18 +33,17 @@ fit_answers : (p : Shape) → Lawful p → (birth : List ℕ) → unfit p (take 
 fit_answers p lw birth fit [] j v s = refl
 fit_answers p lw birth fit (send k l ∷ xs) j v s =
     let says : (outcome p v (event k l)).says ≡ journal_says p birth j (send k l) =
-    fit_says p v k l (stays_fit p birth j v fit s) ∙ ap as_number (event_alike p lw birth j v s k l) ∙ sym (ap (λ o. first_of o (as_number (note.journal_answer (note.journal_step p birth j k l)))) fit) in
-    ap (λ a. a ∷ answers p (called p v (event k l)) xs) says
-    ∙ ap (λ as'. journal_says p birth j (send k l) ∷ as') (fit_answers p lw birth fit xs (noted_call p birth j (event k l)) (called p v (event k l)) (call_stands p lw birth fit (event k l) j v s))
+    rw fit (fit_says p v k l (stays_fit p birth j v fit s) ∙ ap as_number (event_alike p lw birth j v s k l)) in
+    let rest = fit_answers p lw birth fit xs (noted_call p birth j (event k l)) (called p v (event k l)) (call_stands p lw birth fit (event k l) j v s) in
+    λ i. says i ∷ rest i
 
 unfit_answers : (p : Shape) (birth : List ℕ) (r : Refusal) → unfit p (take (cell_count p) birth) ≡ Some r → (xs : List Action) (j : Journal) (v : View) → unfit p v.cells ≡ Some r → answers p v xs ≡ journal_answers p birth j xs
 unfit_answers p birth r e [] j v f = refl
 unfit_answers p birth r e (send k l ∷ xs) j v f =
-    let says : (outcome p v (event k l)).says ≡ journal_says p birth j (send k l) =
-    (unfit_call p r v f (event k l)).1 ∙ sym (ap (λ o. first_of o (as_number (note.journal_answer (note.journal_step p birth j k l)))) e) in
-    ap (λ a. a ∷ answers p (called p v (event k l)) xs) says
-    ∙ ap (λ u. journal_says p birth j (send k l) ∷ answers p u xs) (unfit_call p r v f (event k l)).0
-    ∙ ap (λ as'. journal_says p birth j (send k l) ∷ as') (unfit_answers p birth r e xs (noted_call p birth j (event k l)) v f)
+    let says : (outcome p v (event k l)).says ≡ journal_says p birth j (send k l) = rw (f, e) in
+    let rest : answers p (called p v (event k l)) xs ≡ journal_answers p birth (noted_call p birth j (event k l)) xs =
+    ap (λ u. answers p u xs) (unfit_call p r v f (event k l)).0 ∙ unfit_answers p birth r e xs (noted_call p birth j (event k l)) v f in
+    λ i. says i ∷ rest i
 
 pub answers_stand : AnswersStand
 answers_stand p lw birth h xs = by (unfit p (take (cell_count p) birth)) refl
@@ -129,14 +126,9 @@ told_by p lw birth j v bytes None (Some r) s = (refl, refl)
 told_by p lw birth j v bytes None None s = records_told p lw birth bytes 0 j v (s refl)
 
 pub captures_stand : CapturesStand
-captures_stand p lw birth h bytes room = by (unfit p (take (cell_count p) birth)) refl
-  where
-    by : (o : Option Refusal) → unfit p (take (cell_count p) birth) ≡ o →
-        Told (outcome p (chip_after p birth h) (capture bytes room)) (journal_capture p birth (law.journal_after p birth h) bytes room)
-    by o e =
-        let same : unfit p (chip_after p birth h).cells ≡ unfit p (take (cell_count p) birth) = (cells_stand p lw birth h).fitness in
-        subst (λ x. Told (call.unless x (chip_after p birth h) (call.unless (refused_capture bytes room) (chip_after p birth h) (records p (chip_after p birth h) 0 bytes))) (journal_capture p birth (law.journal_after p birth h) bytes room)) (sym same)
-        (told_by p lw birth (law.journal_after p birth h) (chip_after p birth h) bytes (unfit p (take (cell_count p) birth)) (refused_capture bytes room) (λ z. stands p lw birth z h))
+captures_stand p lw birth h bytes room =
+    rw (cells_stand p lw birth h).fitness
+    (told_by p lw birth (law.journal_after p birth h) (chip_after p birth h) bytes (unfit p (take (cell_count p) birth)) (refused_capture bytes room) (λ z. stands p lw birth z h))
 
 pub unfit_stand : UnfitStand
 unfit_stand p birth r e h x =
@@ -157,10 +149,9 @@ refused_event_stands p v k l e says = by (unfit p v.cells) (step p v k l) says
 
 rest_shift : {p : Shape} {birth : List ℕ} {j : Journal} {v : View} → Tracks p birth j v → v.stretch ≡ Deselected → v.shift ≡ at_rest
 rest_shift (tracks resting m) e = refl
-rest_shift (tracks (young lt) m) e = absurd (both_ways false refl (ap is_off e))
+rest_shift (tracks (young lt) m) e = cc
 rest_shift {p} (tracks (old eight rest a wel sample e8 ok so) m) e =
-    absurd (both_ways (is_off (goes_on p.ident (rule.judged a wel (named (note.number eight))) rest))
-    (late_off (goes_on p.ident (rule.judged a wel (named (note.number eight))) rest) (late_old p.ident a wel (named (note.number eight)) rest)) (ap is_off e))
+    let q = rw e at (late_off _ (late_old p.ident a wel (named (note.number eight)) rest)) in cc
 
 -- the bytes of a chip born over a row of bytes
 cells_bytes : (p : Shape) (birth : List ℕ) → Bytes birth → (j : Journal) (v : View) → Stands p birth j v → Bytes v.cells
@@ -169,8 +160,8 @@ cells_bytes p birth bs j v s = by s.tie s.sound
     by : {j : Journal} {v : View} → Tracks p birth j v → SoundList p j.entries → Bytes v.cells
     by (tracks {es = es} {cells = cells} ft m) sound i =
         elim (cases_lt i (cell_count p)) [
-          | inl h ↦ subst (λ x. x < 256) (sym (m.now_is i h)) (byte_by p (λ n x. x < 256) (λ n x g. g.byte) birth bs es sound i false)
-          | inr h ↦ subst (λ x. x < 256) (sym (get_or_past cells i 0 (subst (λ n. n ≤ i) (sym m.len_is) h))) (lit< tt)
+          | inl h ↦ rw (m.now_is i h) (byte_by p (λ n x. x < 256) (λ n x g. g.byte) birth bs es sound i false)
+          | inr h ↦ rw (get_or_past cells i 0 (omega arith)) (lit< tt)
         ]
 
 -- a chip that is fit was born fit
@@ -247,103 +238,52 @@ stops p (k ∷ l ∷ more) v i e q = by (step p v k l) refl q (λ u z. stops p m
     by : (d : Done) → step p v k l ≡ d → (follow p v i d more).says ≡ Err e → ((u : View) → (records p u (i + 1) more).says ≡ Err e → Stops p u (i + 1) more e) → Stops p v i (k ∷ l ∷ more) e
     by (refused r) s z go =
         let f : raised r i ≡ e = cc in
-        let zero : i + 0 ≡ i = omega arith in
         record {
           n = 0;
-          at = sym (ap (λ x. x.«record») f) ∙ sym zero;
+          at = rw (← f) (omega arith);
           some = omega arith;
-          same = ap (λ d. (follow p v i d more).view) s;
-          levels = ap (λ d. (follow p v i d more).levels) s;
-          before = ap Ok (sym zero);
-          here = s ∙ ap refused (ap (λ x. x.refusal) f);
-          fault = sym f ∙ ap (λ x. raised x.refusal x.«record») f;
+          same = rw (s, records);
+          levels = rw (s, records);
+          before = ap Ok (omega arith);
+          here = rw (s, ← f);
+          fault = rw (← f);
         }
     by (taken u) s z go =
         let c = go u z in
         let two : 2 * (c.n + 1) ≡ suc (suc (2 * c.n)) = omega arith in
-        let three : 2 * (c.n + 1) + 1 ≡ suc (suc (2 * c.n + 1)) = omega arith in
-        let sum : i + 1 + c.n ≡ i + (c.n + 1) = omega arith in
-        let ys : List ℕ = take (2 * c.n) more in
-        let cut : (F : List ℕ → Type 0) → F (k ∷ l ∷ ys) → F (take (2 * (c.n + 1)) (k ∷ l ∷ more)) = λ F x. subst (λ m. F (take m (k ∷ l ∷ more))) (sym two) x in
+        let three : suc (suc (2 * c.n)) + 1 ≡ suc (suc (2 * c.n + 1)) = omega arith in
         record {
           n = c.n + 1;
-          at = c.at ∙ sum;
-          some = longer c.n (length more) c.some;
-          same = cut (λ zs. (records p v i (k ∷ l ∷ more)).view ≡ (records p v i zs).view)
-              (ap (λ d. (follow p v i d more).view) s ∙ c.same ∙ sym (ap (λ d. (follow p v i d ys).view) s));
-          levels = cut (λ zs. (records p v i (k ∷ l ∷ more)).levels ≡ (records p v i zs).levels)
-              (ap (λ d. (follow p v i d more).levels) s ∙ ap (λ qs. rule.seen u.shift ∷ qs) c.levels ∙ sym (ap (λ d. (follow p v i d ys).levels) s));
-          before = cut (λ zs. (records p v i zs).says ≡ Ok (i + (c.n + 1)))
-              (ap (λ d. (follow p v i d ys).says) s ∙ c.before ∙ ap Ok sum);
-          here = cut (λ zs. step p (records p v i zs).view (get_or (k ∷ l ∷ more) (2 * (c.n + 1)) 0) (get_or (k ∷ l ∷ more) (2 * (c.n + 1) + 1) 0) ≡ refused e.refusal)
-              (ap (λ w. step p w (get_or (k ∷ l ∷ more) (2 * (c.n + 1)) 0) (get_or (k ∷ l ∷ more) (2 * (c.n + 1) + 1) 0)) (ap (λ d. (follow p v i d ys).view) s)
-              ∙ ap (λ m. step p (records p u (i + 1) ys).view (get_or (k ∷ l ∷ more) m 0) (get_or (k ∷ l ∷ more) (2 * (c.n + 1) + 1) 0)) two
-              ∙ ap (λ m. step p (records p u (i + 1) ys).view (get_or more (2 * c.n) 0) (get_or (k ∷ l ∷ more) m 0)) three
-              ∙ c.here);
+          at = omega arith;
+          some = omega arith;
+          same = rw (two, s, records) c.same;
+          levels = rw (two, s, records) (ap (λ qs. rule.seen u.shift ∷ qs) c.levels);
+          before = rw (two, s, records) (c.before ∙ ap Ok (omega arith));
+          here = rw (two, three, s, records) c.here;
           fault = c.fault;
         }
-      where
-        longer : (n m : ℕ) → 2 * n ≤ m → 2 * (n + 1) ≤ suc (suc m)
-        longer n m h = omega arith
 
 ready : (bytes : List ℕ) (n : ℕ) → 2 * n ≤ length bytes → refused_capture (take (2 * n) bytes) n ≡ None
 ready bytes n h =
-    let len : length (take (2 * n) bytes) ≡ 2 * n = length-take-le (2 * n) bytes h in
-    ap (λ t. elim t as (λ _. Option Refusal) [ false ↦ Some OddLength | true ↦ elim (ltb n (length (take (2 * n) bytes) / 2)) as (λ _. Option Refusal) [ true ↦ Some ShortAnswers | false ↦ None ] ])
-    (eq-eqb (length (take (2 * n) bytes) % 2) 0 (even (length (take (2 * n) bytes)) n len))
-    ∙ ap (λ t. elim t as (λ _. Option Refusal) [ true ↦ Some ShortAnswers | false ↦ None ]) (le-ltb n (length (take (2 * n) bytes) / 2) (half (length (take (2 * n) bytes)) n len))
-  where
-    even : (m n : ℕ) → m ≡ 2 * n → m % 2 ≡ 0
-    even m n e = omega arith
-
-    half : (m n : ℕ) → m ≡ 2 * n → m / 2 ≤ n
-    half m n e = omega arith
-
-abbrev cut_at : Shape → View → List ℕ → ℕ → Option Refusal → Outcome
-cut_at p v bytes m o = call.unless o v (call.unless (refused_capture (take (2 * m) bytes) m) v (records p v 0 (take (2 * m) bytes)))
-
--- the records ahead of the refused one, on a fit chip
-ahead_is : (p : Shape) (v : View) (bytes : List ℕ) (e : Fault) (c : Stops p v 0 bytes e) → cut_at p v bytes e.«record» None ≡ records p v 0 (take (2 * c.n) bytes)
-ahead_is p v bytes e c =
-    let n : 0 + c.n ≡ c.n = omega arith in
-    ap (λ m. cut_at p v bytes m None) (c.at ∙ n)
-    ∙ ap (λ o. call.unless o v (records p v 0 (take (2 * c.n) bytes))) (ready bytes c.n c.some)
+    let len = length-take-le (2 * n) bytes h in
+    rw (eq-eqb (length (take (2 * n) bytes) % 2) 0 (omega arith), le-ltb n (length (take (2 * n) bytes) / 2) (omega arith), refused_capture)
 
 pub refused_capture_stands : RefusedCaptureStands
 refused_capture_stands p v bytes room e says = by (unfit p v.cells) refl (refused_capture bytes room) refl says
   where
     by : (o : Option Refusal) → unfit p v.cells ≡ o → (o' : Option Refusal) → refused_capture bytes room ≡ o' → (call.unless o v (call.unless o' v (records p v 0 bytes))).says ≡ Err e → RefusedCapture p v bytes room e
-    by (Some r) f o' g q =
-        record {
-          view = ap (λ o. (call.unless o v (call.unless (refused_capture bytes room) v (records p v 0 bytes))).view) f ∙ sym (ap (λ o. (cut_at p v bytes e.«record» o).view) f);
-          levels = ap (λ o. (call.unless o v (call.unless (refused_capture bytes room) v (records p v 0 bytes))).levels) f ∙ sym (ap (λ o. (cut_at p v bytes e.«record» o).levels) f);
-          at = λ n _. cc;
-        }
+    by (Some r) f o' g q = record { view = rw (f, called); levels = rw f; at = λ n _. cc }
     by None f (Some r) g q =
-        let whole : outcome p v (capture bytes room) ≡ record { view = v; levels = []; says = Err (raised r 0) } =
-        ap (λ o. call.unless o v (call.unless (refused_capture bytes room) v (records p v 0 bytes))) f ∙ ap (λ o. call.unless o v (records p v 0 bytes)) g in
-        let part : ahead_of p v bytes e ≡ record { view = v; levels = []; says = Ok 0 } =
-        ap (λ o. cut_at p v bytes e.«record» o) f ∙ ap (λ m. cut_at p v bytes m None) (let z : e.«record» ≡ 0 = cc in z) in
-        record {
-          view = ap (λ x. x.view) whole ∙ sym (ap (λ x. x.view) part);
-          levels = ap (λ x. x.levels) whole ∙ sym (ap (λ x. x.levels) part);
-          at = λ _ n. cc;
-        }
+        let zero : e.«record» ≡ 0 = cc in
+        record { view = rw (f, g, zero, called); levels = rw (f, g, zero); at = λ _ n. cc }
     by None f None g q =
         let c = stops p bytes v 0 e q in
-        let whole : outcome p v (capture bytes room) ≡ records p v 0 bytes =
-        ap (λ o. call.unless o v (call.unless (refused_capture bytes room) v (records p v 0 bytes))) f ∙ ap (λ o. call.unless o v (records p v 0 bytes)) g in
-        let part : ahead_of p v bytes e ≡ records p v 0 (take (2 * c.n) bytes) = ap (λ o. cut_at p v bytes e.«record» o) f ∙ ahead_is p v bytes e c in
-        let n : c.n ≡ e.«record» = sym (c.at ∙ omega arith) in
+        let n : e.«record» ≡ c.n = omega arith in
+        let fits = ready bytes c.n c.some in
         record {
-          view = ap (λ x. x.view) whole ∙ c.same ∙ sym (ap (λ x. x.view) part);
-          levels = ap (λ x. x.levels) whole ∙ c.levels ∙ sym (ap (λ x. x.levels) part);
-          at = λ _ _. record {
-            before = ap (λ x. x.says) part ∙ c.before ∙ ap Ok (sym c.at);
-            here = ap (λ x. step p x.view (get_or bytes (2 * e.«record») 0) (get_or bytes (2 * e.«record» + 1) 0)) part
-                ∙ sym (ap (λ m. step p (records p v 0 (take (2 * c.n) bytes)).view (get_or bytes (2 * m) 0) (get_or bytes (2 * m + 1) 0)) n) ∙ c.here;
-            fault = c.fault;
-          };
+          view = rw (f, g, n, fits, called) c.same;
+          levels = rw (f, g, n, fits) c.levels;
+          at = λ _ _. record { before = rw (f, n, fits) (c.before ∙ ap Ok (omega arith)); here = rw (f, n, fits) c.here; fault = c.fault };
         }
 
 -- ---- page copies

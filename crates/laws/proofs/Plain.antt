@@ -10,7 +10,7 @@ use Rattle.rules.specs.declared.state.Phase.TheVariants.{Input}
 use Rattle.rules.specs.Shape.{Shape, status_at, lock_at}
 use Rattle.rules.specs.Tables.{decoded, unfit}
 use Rattle.rules.specs.Rules.{View, Done, taken, refused, step, does, unless, refuses, moved, after, answer, closed, deselected, pending, counts, rises_s, rises_c, falls_c, holds}
-use Rattle.rules.specs.Calls.{outcome, called, event, one_event, unless as unless_first}
+use Rattle.rules.specs.Calls.{outcome, called, event, one_event}
 use Rattle.laws.specs.Laws.{Action, send, answers, as_number, of_bytes, Alike}
 
 -- ---- the cells
@@ -73,10 +73,10 @@ view_is v (refused r) = refl
 
 -- a call on a fit chip is its step
 pub fit_says : (p : Shape) (v : View) (k l : ℕ) → unfit p v.cells ≡ None → (outcome p v (event k l)).says ≡ as_number (answer (step p v k l))
-fit_says p v k l f = ap (λ o. (unless_first o v (one_event v (step p v k l))).says) f ∙ says_is v (step p v k l)
+fit_says p v k l f = rw f (says_is v (step p v k l))
 
 pub fit_view : (p : Shape) (v : View) (k l : ℕ) → unfit p v.cells ≡ None → called p v (event k l) ≡ after v (step p v k l)
-fit_view p v k l f = ap (λ o. (unless_first o v (one_event v (step p v k l))).view) f ∙ view_is v (step p v k l)
+fit_view p v k l f = rw (f, called) (view_is v (step p v k l))
 
 -- ---- lists
 
@@ -89,22 +89,17 @@ abbrev pub plain : Shape → View → List Action → List (Result ℕ Fault)
 plain p v [] = []
 plain p v (send k l ∷ more) = as_number (answer (step p v k l)) ∷ plain p (after v (step p v k l)) more
 
-T_left : (a b : Bool) → T (a && b) → T a
-T_left true b t = tt
-T_left false b t = t
-
-T_right : (a b : Bool) → T (a && b) → T b
-T_right true b t = t
-T_right false b t = absurd t
+T_parts : (a b : Bool) → T (a && b) → T a × T b
+T_parts true b t = (tt, t)
+T_parts false b t = absurd t
 
 pub plainly : (p : Shape) (xs : List Action) (v : View) → T (all_calm xs) → unfit p v.cells ≡ None → answers p v xs ≡ plain p v xs
 plainly p [] v c f = refl
 plainly p (send k l ∷ more) v c f =
-    let now : T (calm (decoded k l)) = T_left (calm (decoded k l)) (all_calm more) c in
-    let later : T (all_calm more) = T_right (calm (decoded k l)) (all_calm more) c in
-    let fw : unfit p (after v (step p v k l)).cells ≡ None = ap (unfit p) (step_cells p v k l now) ∙ f in
+    let now : T (calm (decoded k l)) × T (all_calm more) = T_parts (calm (decoded k l)) (all_calm more) c in
+    let fw : unfit p (after v (step p v k l)).cells ≡ None = ap (unfit p) (step_cells p v k l now.0) ∙ f in
     let e : answers p (called p v (event k l)) more ≡ plain p (after v (step p v k l)) more =
-    ap (λ x. answers p x more) (fit_view p v k l f) ∙ plainly p more (after v (step p v k l)) later fw in
+    ap (λ x. answers p x more) (fit_view p v k l f) ∙ plainly p more (after v (step p v k l)) now.1 fw in
     let s : (outcome p v (event k l)).says ≡ as_number (answer (step p v k l)) = fit_says p v k l f in
     λ i. s i ∷ e i
 

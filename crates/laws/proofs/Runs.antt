@@ -1,5 +1,5 @@
 -- After every history the journal keeps what the chip shows.
-use Rattle.std.proofs.Common.{◌≡◌, ℕ, ◌+◌, ◌<◌, ◌≤◌, false, List, [], ◌∷◌, length, get_or, take, Some, None, Ok, Err, Option, Result, sym, refl, ap, ◌∙◌, subst, arith, length-take}
+use Rattle.std.proofs.Common.{◌≡◌, ℕ, ◌+◌, ◌<◌, ◌≤◌, false, List, [], ◌∷◌, length, get_or, take, Some, None, Ok, Err, Option, Result, refl, ap, ◌∙◌, arith, length-take}
 use Rattle.std.proofs.lemmas.Bool.{eq-eqb, le-ltb}
 use Rattle.std.proofs.lemmas.List.{get_or-take}
 use Rattle.backing.specs.Faults.{raised}
@@ -36,8 +36,8 @@ LawfulCell p i x = (i ≡ status_at p → kept x ≡ x) × (i ≡ lock_at p → 
 
 birth_lawful : (p : Shape) (birth : List ℕ) → unfit p (born_cells p birth) ≡ None → (i : ℕ) → LawfulCell p i (get_or birth i 0)
 birth_lawful p birth f i = (
-  (λ e. subst (λ n. kept (get_or birth n 0) ≡ get_or birth n 0) (sym e) (subst (λ x. kept x ≡ x) (get_or-take (cell_count p) birth (status_at p) 0 (omega arith)) (fit_status p (born_cells p birth) f))),
-  (λ e. subst (λ n. get_or birth n 0 ≤ 1) (sym e) (subst (λ x. x ≤ 1) (get_or-take (cell_count p) birth (lock_at p) 0 (omega arith)) (fit_lock p (born_cells p birth) f))),
+  (λ e. rw (e, ← get_or-take (cell_count p) birth (status_at p) 0 (omega arith)) (fit_status p (born_cells p birth) f)),
+  (λ e. rw (e, ← get_or-take (cell_count p) birth (lock_at p) 0 (omega arith)) (fit_lock p (born_cells p birth) f)),
 )
 
 pub stays_fit : (p : Shape) (birth : List ℕ) (j : Journal) (v : View) → unfit p (born_cells p birth) ≡ None → Stands p birth j v → unfit p v.cells ≡ None
@@ -46,8 +46,8 @@ stays_fit p birth j v f s = by s.tie s.sound
     by : {j : Journal} {v : View} → Tracks p birth j v → SoundList p j.entries → unfit p v.cells ≡ None
     by (tracks {es = es} {cells = cells} ft m) sound =
         let lawful : (i : ℕ) → i < cell_count p → LawfulCell p i (get_or cells i 0) =
-        λ i h. subst (LawfulCell p i) (sym (m.now_is i h)) (byte_by p (LawfulCell p) (λ n x g. (g.status, g.lock)) birth (birth_lawful p birth f) es sound i false) in
-        made_fit p cells (subst (λ n. cell_count p ≤ n) (sym m.len_is) (omega arith)) ((lawful (status_at p) (omega arith)).0 refl) ((lawful (lock_at p) (omega arith)).1 refl)
+        λ i h. rw (m.now_is i h) (byte_by p (LawfulCell p) (λ n x g. (g.status, g.lock)) birth (birth_lawful p birth f) es sound i false) in
+        made_fit p cells (omega arith) ((lawful (status_at p) (omega arith)).0 refl) ((lawful (lock_at p) (omega arith)).1 refl)
 
 -- ---- birth
 
@@ -114,9 +114,7 @@ module _ (p : Shape) (law : Lawful p) (birth : List ℕ) where
 
   module _ (fit : unfit p (born_cells p birth) ≡ None) where
     pub call_stands : (x : Call) (j : Journal) (v : View) → Stands p birth j v → Stands p birth (noted_call p birth j x) (called p v x)
-    call_stands x j v s =
-        subst (λ o. Stands p birth (kept_by o j (note.fit_noted p birth j x)) (called p v x)) (sym fit)
-        (subst (λ o. Stands p birth (note.fit_noted p birth j x) (call.unless o v (call.fit_call p v x)).view) (sym (stays_fit p birth j v fit s)) (fit_stands x j v s))
+    call_stands x j v s = rw (fit, stays_fit p birth j v fit s, called) (fit_stands x j v s)
 
     pub history_stands : (h : List Call) (j : Journal) (v : View) → Stands p birth j v → Stands p birth (journal_of p birth j h) (after_calls p v h)
     history_stands [] j v s = s
@@ -126,17 +124,14 @@ module _ (p : Shape) (law : Lawful p) (birth : List ℕ) where
 
 module _ (p : Shape) (r : Refusal) where
   pub unfit_call : (v : View) → unfit p v.cells ≡ Some r → (x : Call) → (called p v x ≡ v) × ((outcome p v x).says ≡ Err (raised r 0))
-  unfit_call v e x = (
-    ap (λ o. (call.unless o v (call.fit_call p v x)).view) e,
-    ap (λ o. (call.unless o v (call.fit_call p v x)).says) e,
-  )
+  unfit_call v e x = (rw (e, called), rw e)
 
   pub unfit_history : (v : View) → unfit p v.cells ≡ Some r → (h : List Call) → after_calls p v h ≡ v
   unfit_history v e [] = refl
   unfit_history v e (x ∷ h) = ap (λ u. after_calls p u h) (unfit_call v e x).0 ∙ unfit_history v e h
 
   pub unfit_noted : (birth : List ℕ) → unfit p (born_cells p birth) ≡ Some r → (j : Journal) (x : Call) → noted_call p birth j x ≡ j
-  unfit_noted birth e j x = ap (λ o. kept_by o j (note.fit_noted p birth j x)) e
+  unfit_noted birth e j x = rw e
 
   pub unfit_journal : (birth : List ℕ) → unfit p (born_cells p birth) ≡ Some r → (j : Journal) (h : List Call) → journal_of p birth j h ≡ j
   unfit_journal birth e j [] = refl

@@ -8,6 +8,7 @@ use Rattle.backing.specs.declared.refusal.Refusal.{Refusal}
 use Rattle.backing.specs.declared.refusal.Refusal.TheVariants.{ShortBacking, StatusBits, LockValue}
 use Rattle.backing.specs.declared.fault.Fault.{Fault}
 use Rattle.rules.specs.declared.state.Level.TheVariants.{Float}
+use Rattle.rules.specs.declared.state.Event.TheVariants.{Clock, Data, Protect, Hold}
 use Rattle.rules.specs.declared.state.Region.{Region}
 use Rattle.rules.specs.declared.state.Region.TheVariants as region
 use Rattle.rules.specs.declared.state.Pins.{Pins}
@@ -15,9 +16,10 @@ use Rattle.rules.specs.declared.state.Cycle.TheVariants.{Idle}
 use Rattle.rules.specs.declared.state.Phase.{Phase}
 use Rattle.rules.specs.declared.state.Phase.TheVariants.{Deselected, Status, Output}
 use Rattle.rules.specs.Shape.{Shape, Lawful, array_len, unique_at, status_at, lock_at, cell_count}
-use Rattle.rules.specs.Tables.{level_number, level_of, bit_of, kept, unfit, status_byte, decoded}
-use Rattle.rules.specs.Rules.{View, step, after, answer, at_rest, place}
+use Rattle.rules.specs.Tables.{there, level_number, level_of, bit_of, kept, unfit, status_byte, decoded}
+use Rattle.rules.specs.Rules.{View, moved, unless, step, after, answer, at_rest, place}
 use Rattle.laws.specs.Laws.{Action, send, as_number, of_bytes, Alike}
+use Rattle.laws.proofs.Bits.{ident_size}
 use Rattle.laws.proofs.Plain.{calm, all_calm, plain, PlainlyAlike, alike_plainly}
 
 -- ---- views, and lists of events
@@ -145,16 +147,15 @@ level_bit (suc (suc x)) lt = absurd (omega arith)
 same_bit : (x y : ℕ) → level_number (level_of (x % 2)) ≡ level_number (level_of (y % 2)) → x % 2 ≡ y % 2
 same_bit x y e = sym (level_bit (x % 2) (omega arith)) ∙ (e ∙ level_bit (y % 2) (omega arith))
 
-below_8 : (P : ℕ → Type 0) → P 0 → P 1 → P 2 → P 3 → P 4 → P 5 → P 6 → P 7 → (k : ℕ) → k < 8 → P k
-below_8 P a b c d e f g h zero lt = a
-below_8 P a b c d e f g h (suc zero) lt = b
-below_8 P a b c d e f g h (suc (suc zero)) lt = c
-below_8 P a b c d e f g h (suc (suc (suc zero))) lt = d
-below_8 P a b c d e f g h (suc (suc (suc (suc zero)))) lt = e
-below_8 P a b c d e f g h (suc (suc (suc (suc (suc zero))))) lt = f
-below_8 P a b c d e f g h (suc (suc (suc (suc (suc (suc zero)))))) lt = g
-below_8 P a b c d e f g h (suc (suc (suc (suc (suc (suc (suc zero))))))) lt = h
-below_8 P a b c d e f g h (suc (suc (suc (suc (suc (suc (suc (suc k)))))))) lt = absurd (omega arith)
+below_7 : (P : ℕ → Type 0) → P 0 → P 1 → P 2 → P 3 → P 4 → P 5 → P 6 → (k : ℕ) → k < 7 → P k
+below_7 P a b c d e f g zero lt = a
+below_7 P a b c d e f g (suc zero) lt = b
+below_7 P a b c d e f g (suc (suc zero)) lt = c
+below_7 P a b c d e f g (suc (suc (suc zero))) lt = d
+below_7 P a b c d e f g (suc (suc (suc (suc zero)))) lt = e
+below_7 P a b c d e f g (suc (suc (suc (suc (suc zero))))) lt = f
+below_7 P a b c d e f g (suc (suc (suc (suc (suc (suc zero)))))) lt = g
+below_7 P a b c d e f g (suc (suc (suc (suc (suc (suc (suc k))))))) lt = absurd (omega arith)
 
 -- a byte by the levels at its bits
 byte_from_levels : (a b : ℕ) → a < 256 → b < 256 → ((k : ℕ) → k < 8 → level_number (level_of (bit_of a k)) ≡ level_number (level_of (bit_of b k))) → a ≡ b
@@ -178,7 +179,7 @@ module _ (p : Shape) (w wel : Bool) (cells : List ℕ) (r : Region) (a : ℕ) wh
   Ticks k = go p (reading p w wel cells r a k) (clk 1) ≡ reading p w wel cells r a (suc k)
 
   ticks : (k : ℕ) → k < 7 → Ticks k
-  ticks k h = below_8 (λ j. j < 7 → Ticks j) (λ _. refl) (λ _. refl) (λ _. refl) (λ _. refl) (λ _. refl) (λ _. refl) (λ _. refl) (λ l. absurd (omega arith)) k (omega arith) h
+  ticks = below_7 Ticks refl refl refl refl refl refl refl
 
   at_bit : (k : ℕ) → k < 8 → go p (reading p w wel cells r a 0) (clk k) ≡ reading p w wel cells r a k
   at_bit k h = clocks_by p (reading p w wel cells r a) ticks 0 k (omega arith) ∙ ap (reading p w wel cells r a) (omega arith)
@@ -206,12 +207,7 @@ module _ (p : Shape) (w wel wel' : Bool) (cells cells' : List ℕ) (r : Region) 
   comes : (x : View) (wl : Bool) (cs : List ℕ) → go p x cmd ≡ reading p w wl cs r a 0 → (i k : ℕ) → a + i < 4294967296 → k < 8 →
       said p (go p x (cmd ++ (rounds i ++ clk k))) 1 1 ≡ Ok (level_number (level_of (bit_of (get_or cs (place p r (a + i)) 0) k)))
   comes x wl cs o i k hi hk =
-      let e1 = go_append p x cmd (rounds i ++ clk k) in
-      let e2 = go_append p (go p x cmd) (rounds i) (clk k) in
-      let e3 = ap (λ y. go p (go p y (rounds i)) (clk k)) o in
-      let e4 = ap (λ y. go p y (clk k)) (at_byte p w wl cs r a i hi) in
-      let e5 = at_bit p w wl cs r (a + i) k hk in
-      ap (λ y. said p y 1 1) (e1 ∙ (e2 ∙ (e3 ∙ (e4 ∙ e5)))) ∙ says_bit p false w wl cs (get_or cs (place p r (a + i)) 0) k (Output r (a + i) k)
+      rw (go_append p x cmd (rounds i ++ clk k), go_append p (go p x cmd) (rounds i) (clk k), o, at_byte p w wl cs r a i hi, at_bit p w wl cs r (a + i) k hk)
 
   levels_alike : (i : ℕ) → a + i < 4294967296 → (k : ℕ) → k < 8 →
       level_number (level_of (bit_of (get_or cells (place p r (a + i)) 0) k)) ≡ level_number (level_of (bit_of (get_or cells' (place p r (a + i)) 0) k))
@@ -278,7 +274,7 @@ module _ (p : Shape) (w wel : Bool) (cells : List ℕ) where
   Asks k = go p (asking p w wel cells k) (clk 1) ≡ asking p w wel cells (suc k)
 
   asks : (k : ℕ) → k < 7 → Asks k
-  asks k h = below_8 (λ j. j < 7 → Asks j) (λ _. refl) (λ _. refl) (λ _. refl) (λ _. refl) (λ _. refl) (λ _. refl) (λ _. refl) (λ l. absurd (omega arith)) k (omega arith) h
+  asks = below_7 Asks refl refl refl refl refl refl refl
 
   at_status : (k : ℕ) → k < 8 → go p (asking p w wel cells 0) (clk k) ≡ asking p w wel cells k
   at_status k h = clocks_by p (asking p w wel cells) asks 0 k (omega arith) ∙ ap (asking p w wel cells) (omega arith)
@@ -301,8 +297,7 @@ small s false h e = omega arith
 apart : (s t : ℕ) (a b : Bool) → kept s ≡ s → kept t ≡ t → status_byte s a false ≡ status_byte t b false → (a ≡ b) × (s ≡ t)
 apart s t true true e f q = (refl, omega arith)
 apart s t false false e f q = (refl, omega arith)
-apart s t true false e f q = absurd (omega arith)
-apart s t false true e f q = absurd (omega arith)
+apart s t a b e f q = absurd (omega arith)
 
 -- ---- fitness
 
@@ -337,58 +332,17 @@ module _ (p : Shape) (cells : List ℕ) (fit : unfit p cells ≡ None) where
   pub fit_lock : get_or cells (lock_at p) 0 ≤ 1
   fit_lock = ltb-false 1 (get_or cells (lock_at p) 0) all_parts.2
 
--- ---- the levels: an event to the level that a pin has is refused
-
-module _ (p : Shape) (wel wel' : Bool) (cells cells' : List ℕ) where
-  abbrev Says : ℕ → Pins → Pins → Type 0
-  Says k x y =
-      said p (rest x.clock x.input x.protect x.hold wel cells) k 1 ≡ said p (rest y.clock y.input y.protect y.hold wel' cells') k 1
-
-  same_clock : (c c' d d' w w' h h' : Bool) → Says 1 (levels c d w h) (levels c' d' w' h') → c ≡ c'
-  same_clock true true d d' w w' h h' e = refl
-  same_clock true false d d' w w' h h' e = cc
-  same_clock false true d d' w w' h h' e = cc
-  same_clock false false d d' w w' h h' e = refl
-
-  same_input : (c c' d d' w w' h h' : Bool) → Says 2 (levels c d w h) (levels c' d' w' h') → d ≡ d'
-  same_input c c' true true w w' h h' e = refl
-  same_input c c' true false w w' h h' e = cc
-  same_input c c' false true w w' h h' e = cc
-  same_input c c' false false w w' h h' e = refl
-
-  same_protect : (c c' d d' w w' h h' : Bool) → Says 3 (levels c d w h) (levels c' d' w' h') → w ≡ w'
-  same_protect c c' d d' true true h h' e = refl
-  same_protect c c' d d' true false h h' e = cc
-  same_protect c c' d d' false true h h' e = cc
-  same_protect c c' d d' false false h h' e = refl
-
-  same_hold : (c c' d d' w w' h h' : Bool) → Says 4 (levels c d w h) (levels c' d' w' h') → h ≡ h'
-  same_hold c c' d d' w w' true true e = refl
-  same_hold c c' d d' w w' true false e = cc
-  same_hold c c' d d' w w' false true e = cc
-  same_hold c c' d d' w w' false false e = refl
+-- an event to the level that a pin has is refused, and no other is
+same_pin : (a b : Bool) (u v : View) → as_number (answer (unless (there a true) u)) ≡ as_number (answer (unless (there b true) v)) → a ≡ b
+same_pin true true u v e = refl
+same_pin false false u v e = refl
+same_pin a b u v e = cc
 
 -- ---- cells, with the same levels
 
-in_range : (b : ℕ) → b ≤ 18 → 2 ^ b < 4294967296
-in_range b h = pow_below b 32 (omega arith)
-
-few_ident : (p : Shape) → Lawful p → (0 < p.ident) × (p.ident ≤ 256)
-few_ident p law = elim law.page [ inl e ↦ (omega arith, omega arith) | inr e ↦ (omega arith, omega arith) ]
-
--- what a region's place is, from its first on
-array_place : (p : Shape) (i : ℕ) → i < array_len p → place p region.Array (0 + i) ≡ i
-array_place p i h = let e : 0 + i ≡ i = omega arith in ap (λ n. n % array_len p) e ∙ mod-eq_of_lt h
-
-ident_place : (p : Shape) (i : ℕ) → i < p.ident → place p region.Ident (0 + i) ≡ array_len p + i
-ident_place p i h = let e : 0 + i ≡ i = omega arith in ap (λ n. array_len p + n) (ap (λ n. n % p.ident) e ∙ mod-eq_of_lt h)
-
-unique_place : (p : Shape) (i : ℕ) → i < 16 → place p region.Unique (0 + i) ≡ unique_at p + i
-unique_place p i h = let e : 0 + i ≡ i = omega arith in ap (λ n. unique_at p + n) (ap (λ n. n % 16) e ∙ mod-eq_of_lt h)
-
--- the last place
-lastly : (n i : ℕ) → i < n + 18 → n + 16 ≤ i → (i ≡ n + 16 → ⊥) → n + 17 ≡ i
-lastly n i a b f = omega arith
+-- a byte of a region from its first on
+first_turn : (n i : ℕ) → i < n → (0 + i) % n ≡ i
+first_turn n i h = let e : 0 + i ≡ i = omega arith in rw e (mod-eq_of_lt h)
 
 module _ (p : Shape) (law : Lawful p) (c d w h wel wel' : Bool) (cells cells' : List ℕ)
     (ok : Bytes cells) (ok' : Bytes cells') (al : PlainlyAlike p (rest c d w h wel cells) (rest c d w h wel' cells')) where
@@ -401,16 +355,16 @@ module _ (p : Shape) (law : Lawful p) (c d w h wel wel' : Bool) (cells cells' : 
 
   in_array : (i : ℕ) → i < array_len p → At i
   in_array i lt =
-      let big : 2 ^ p.bits < 4294967296 = in_range p.bits law.high in
-      subst At (array_place p i lt) (region_alike region.Array 0 (3 ∷ 0 ∷ 0 ∷ 0 ∷ []) (λ wl cs. read_opens p w wl cs c d h) (tt, tt) i (omega arith))
+      let big : 2 ^ p.bits < 4294967296 = pow_below p.bits 32 (omega arith) in
+      rw (first_turn (array_len p) i lt) at (region_alike region.Array 0 (3 ∷ 0 ∷ 0 ∷ 0 ∷ []) (λ wl cs. read_opens p w wl cs c d h) (tt, tt) i (omega arith))
 
   in_ident : (i : ℕ) → i < p.ident → At (array_len p + i)
   in_ident i lt =
-      let few = few_ident p law in
-      subst At (ident_place p i lt) (region_alike region.Ident 0 (131 ∷ 0 ∷ 0 ∷ 0 ∷ []) (λ wl cs. ident_opens p w wl cs c d h) (tt, tt) i (omega arith))
+      let few = ident_size p law in
+      rw (first_turn p.ident i lt) at (region_alike region.Ident 0 (131 ∷ 0 ∷ 0 ∷ 0 ∷ []) (λ wl cs. ident_opens p w wl cs c d h) (tt, tt) i (omega arith))
 
   in_unique : (i : ℕ) → i < 16 → At (unique_at p + i)
-  in_unique i lt = subst At (unique_place p i lt) (region_alike region.Unique 0 (129 ∷ 0 ∷ 0 ∷ 0 ∷ []) (λ wl cs. unique_opens p w wl cs c d h) (tt, tt) i (omega arith))
+  in_unique i lt = rw (first_turn 16 i lt) at (region_alike region.Unique 0 (129 ∷ 0 ∷ 0 ∷ 0 ∷ []) (λ wl cs. unique_opens p w wl cs c d h) (tt, tt) i (omega arith))
 
   in_lock : At (lock_at p)
   in_lock = region_alike region.Lock 1024 (131 ∷ 0 ∷ 4 ∷ 0 ∷ []) (λ wl cs. lock_opens p w wl cs c d h) (tt, tt) 0 (lit< tt)
@@ -434,7 +388,7 @@ module _ (p : Shape) (law : Lawful p) (c d w h wel wel' : Bool) (cells cells' : 
             | inl f ↦ subst At (omega arith) (in_unique (i - unique_at p) (omega arith))
             | inr f ↦ elim (cases_eq i (status_at p)) [
               | inl g ↦ subst At (sym g) (status_same e e').1
-              | inr g ↦ subst At (lastly (unique_at p) i lt f g) in_lock
+              | inr g ↦ subst At (omega arith) in_lock
             ]
           ]
         ]
@@ -453,10 +407,10 @@ resting p law x y wel wel' cells cells' b b' f f' al =
     let ux : View = rest x.clock x.input x.protect x.hold wel cells in
     let vy : View = rest y.clock y.input y.protect y.hold wel' cells' in
     let says : (k : ℕ) → Fine (send k 1 ∷ []) → said p ux k 1 ≡ said p vy k 1 = λ k g. last_said p [] k 1 ux vy (al (send k 1 ∷ []) g.0 g.1) in
-    let ec : x.clock ≡ y.clock = same_clock p wel wel' cells cells' x.clock y.clock x.input y.input x.protect y.protect x.hold y.hold (says 1 (tt, tt)) in
-    let ed : x.input ≡ y.input = same_input p wel wel' cells cells' x.clock y.clock x.input y.input x.protect y.protect x.hold y.hold (says 2 (tt, tt)) in
-    let ew : x.protect ≡ y.protect = same_protect p wel wel' cells cells' x.clock y.clock x.input y.input x.protect y.protect x.hold y.hold (says 3 (tt, tt)) in
-    let eh : x.hold ≡ y.hold = same_hold p wel wel' cells cells' x.clock y.clock x.input y.input x.protect y.protect x.hold y.hold (says 4 (tt, tt)) in
+    let ec : x.clock ≡ y.clock = same_pin x.clock y.clock (moved p ux (Clock true)) (moved p vy (Clock true)) (says 1 (tt, tt)) in
+    let ed : x.input ≡ y.input = same_pin x.input y.input (moved p ux (Data true)) (moved p vy (Data true)) (says 2 (tt, tt)) in
+    let ew : x.protect ≡ y.protect = same_pin x.protect y.protect (moved p ux (Protect true)) (moved p vy (Protect true)) (says 3 (tt, tt)) in
+    let eh : x.hold ≡ y.hold = same_pin x.hold y.hold (moved p ux (Hold true)) (moved p vy (Hold true)) (says 4 (tt, tt)) in
     let al2 : PlainlyAlike p (rest x.clock x.input x.protect x.hold wel cells) (rest x.clock x.input x.protect x.hold wel' cells') =
     subst (PlainlyAlike p (rest x.clock x.input x.protect x.hold wel cells)) (λ i. rest (sym ec i) (sym ed i) (sym ew i) (sym eh i) wel' cells') al in (
       λ i. levels (ec i) (ed i) (ew i) (eh i),
