@@ -65,40 +65,31 @@ number_after_lt acc (b ∷ bs) =
 pub number_lt : (bs : List Bool) → number bs < 2 ^ length bs
 number_lt bs = omega (arith, number_after_lt 0 bs)
 
+-- a number of at most n bits
+pub number_below : (bs : List Bool) (n : ℕ) → length bs ≤ n → number bs < 2 ^ n
+number_below bs n h = omega (arith, number_lt bs, pow-le-pow_right {n = 2} (omega arith) {i = length bs} {j = n} h)
+
 number_le : (acc : ℕ) (bs : List Bool) → acc ≤ number_after acc bs
 number_le acc [] = omega arith
 number_le acc (b ∷ bs) = omega (arith, number_le (2 * acc + to_number b) bs)
 
--- a register that rolls takes a number that fits
-abbrev pushes : ℕ → List Bool → ℕ
-pushes acc [] = acc
-pushes acc (b ∷ bs) = pushes (pushed acc b) bs
+-- a register that rolls takes a number that fits; half is half of what it holds
+abbrev pushes : (half acc : ℕ) → List Bool → ℕ
+pushes half acc [] = acc
+pushes half acc (b ∷ bs) = pushes half (2 * (acc % half) + to_number b) bs
 
-pushes_is : (acc : ℕ) (bs : List Bool) → number_after acc bs < 256 → pushes acc bs ≡ number_after acc bs
-pushes_is acc [] lt = refl
-pushes_is acc (b ∷ bs) lt =
-    let le : 2 * acc + to_number b ≤ number_after (2 * acc + to_number b) bs = number_le (2 * acc + to_number b) bs in
-    let e : acc % 128 ≡ acc = mod-eq_of_lt (omega arith) in
-    rw e (pushes_is (2 * acc + to_number b) bs lt)
+pushes_is : (half acc : ℕ) (bs : List Bool) → number_after acc bs < 2 * half → pushes half acc bs ≡ number_after acc bs
+pushes_is half acc [] lt = refl
+pushes_is half acc (b ∷ bs) lt =
+    let le = number_le (2 * acc + to_number b) bs in
+    let e : acc % half ≡ acc = mod-eq_of_lt (omega arith) in
+    rw e (pushes_is half (2 * acc + to_number b) bs lt)
 
 -- the instruction's register
 pub pushed_number : (bs : List Bool) (b : Bool) → length bs < 8 → pushed (number bs) b ≡ number (bs ++ (b ∷ []))
 pushed_number bs b lt =
-    let small : number bs < 2 ^ length bs = number_lt bs in
-    let le : 2 ^ length bs ≤ 2 ^ 7 = pow-le-pow_right {n = 2} (omega arith) {i = length bs} {j = 7} (omega arith) in
-    let e : number bs % 128 ≡ number bs = mod-eq_of_lt (omega arith) in
+    let e : number bs % 128 ≡ number bs = mod-eq_of_lt (number_below bs 7 (omega arith)) in
     rw (e, number_push 0 bs b)
-
-abbrev pushes_address : ℕ → List Bool → ℕ
-pushes_address acc [] = acc
-pushes_address acc (b ∷ bs) = pushes_address (pushed_address acc b) bs
-
-pushes_address_is : (acc : ℕ) (bs : List Bool) → number_after acc bs < 16777216 → pushes_address acc bs ≡ number_after acc bs
-pushes_address_is acc [] lt = refl
-pushes_address_is acc (b ∷ bs) lt =
-    let le : 2 * acc + to_number b ≤ number_after (2 * acc + to_number b) bs = number_le (2 * acc + to_number b) bs in
-    let e : acc % 8388608 ≡ acc = mod-eq_of_lt (omega arith) in
-    rw e (pushes_address_is (2 * acc + to_number b) bs lt)
 
 -- ---- phases that stay
 
@@ -120,7 +111,7 @@ address_more : (ident : ℕ) (acc : Access) (wel b : Bool) (n v : ℕ) → n < 2
 address_more ident acc wel b n v lt = rw (lt-ltb n 23 lt, latched)
 
 address_whole : (ident : ℕ) (acc : Access) (wel : Bool) (bs rest : List Bool) (n v : ℕ) → n + length bs ≡ 24 → n < 24 →
-    goes_on ident (Address acc wel n v) (bs ++ rest) ≡ goes_on ident (aimed ident acc wel (pushes_address v bs)) rest
+    goes_on ident (Address acc wel n v) (bs ++ rest) ≡ goes_on ident (aimed ident acc wel (pushes 8388608 v bs)) rest
 address_whole ident acc wel [] rest n v e lt = absurd (omega arith)
 address_whole ident acc wel (b ∷ []) rest n v e lt = let q : n ≡ 23 = omega arith in rw q
 address_whole ident acc wel (b ∷ b' ∷ bs) rest n v e lt =
@@ -128,7 +119,7 @@ address_whole ident acc wel (b ∷ b' ∷ bs) rest n v e lt =
     (address_whole ident acc wel (b' ∷ bs) rest (n + 1) (pushed_address v b) (omega arith) (omega arith))
 
 address_short : (ident : ℕ) (acc : Access) (wel : Bool) (bs : List Bool) (n v : ℕ) → n + length bs < 24 →
-    goes_on ident (Address acc wel n v) bs ≡ Address acc wel (n + length bs) (pushes_address v bs)
+    goes_on ident (Address acc wel n v) bs ≡ Address acc wel (n + length bs) (pushes 8388608 v bs)
 address_short ident acc wel [] n v lt = ap (λ m. Address acc wel m v) (omega arith)
 address_short ident acc wel (b ∷ bs) n v lt =
     let e : n + 1 + length bs ≡ n + suc (length bs) = omega arith in
@@ -138,18 +129,15 @@ address_short ident acc wel (b ∷ bs) n v lt =
 pub address_part : (ident : ℕ) (acc : Access) (wel : Bool) (rest : List Bool) → length rest < 24 →
     goes_on ident (Address acc wel 0 0) rest ≡ Address acc wel (length rest) (number rest)
 address_part ident acc wel rest lt =
-    let small : number rest < 2 ^ length rest = number_lt rest in
-    let le : 2 ^ length rest ≤ 2 ^ 24 = pow-le-pow_right {n = 2} (omega arith) {i = length rest} {j = 24} (omega arith) in
     let z : 0 + length rest ≡ length rest = omega arith in
-    rw (address_short ident acc wel rest 0 0 (omega arith), z, pushes_address_is 0 rest (omega arith))
+    rw (address_short ident acc wel rest 0 0 (omega arith), z, pushes_is 8388608 0 rest (number_below rest 24 (omega arith)))
 
 pub address_full : (ident : ℕ) (acc : Access) (wel : Bool) (rest : List Bool) → 24 ≤ length rest →
     goes_on ident (Address acc wel 0 0) rest ≡ goes_on ident (aimed ident acc wel (number (take 24 rest))) (drop 24 rest)
 address_full ident acc wel rest ge =
     let l24 : length (take 24 rest) ≡ 24 = length-take-le 24 rest ge in
-    let small : number (take 24 rest) < 16777216 = rw l24 at (number_lt (take 24 rest)) in
     ap (λ x. goes_on ident (Address acc wel 0 0) x) (sym (take-append-drop 24 rest)) ∙
-    rw (address_whole ident acc wel (take 24 rest) (drop 24 rest) 0 0 (omega arith) (omega arith), pushes_address_is 0 (take 24 rest) small)
+    rw (address_whole ident acc wel (take 24 rest) (drop 24 rest) 0 0 (omega arith) (omega arith), pushes_is 8388608 0 (take 24 rest) (number_below (take 24 rest) 24 (omega arith)))
 
 -- ---- data bits
 
@@ -164,15 +152,9 @@ data Chunks : List Bool → Type 0 where
   ends : (a : Bool) (bs : List Bool) → length bs < 7 → Chunks (a ∷ bs)
 
 chunks : (bs : List Bool) → Chunks bs
-chunks [] = done
-chunks (a ∷ []) = ends a [] (omega arith)
-chunks (a ∷ b ∷ []) = ends a (b ∷ []) (omega arith)
-chunks (a ∷ b ∷ c ∷ []) = ends a (b ∷ c ∷ []) (omega arith)
-chunks (a ∷ b ∷ c ∷ d ∷ []) = ends a (b ∷ c ∷ d ∷ []) (omega arith)
-chunks (a ∷ b ∷ c ∷ d ∷ e ∷ []) = ends a (b ∷ c ∷ d ∷ e ∷ []) (omega arith)
-chunks (a ∷ b ∷ c ∷ d ∷ e ∷ f ∷ []) = ends a (b ∷ c ∷ d ∷ e ∷ f ∷ []) (omega arith)
-chunks (a ∷ b ∷ c ∷ d ∷ e ∷ f ∷ g ∷ []) = ends a (b ∷ c ∷ d ∷ e ∷ f ∷ g ∷ []) (omega arith)
 chunks (a ∷ b ∷ c ∷ d ∷ e ∷ f ∷ g ∷ h ∷ bs) = byte a b c d e f g h (chunks bs)
+chunks [] = done
+chunks (a ∷ bs) = ends a bs (omega arith)
 
 -- what whole bytes leave of the count and of a page
 abbrev gots : Got → List ℕ → Got
@@ -211,7 +193,7 @@ input_more : (ident : ℕ) (t : Target) (wel b : Bool) (start at last k v : ℕ)
 input_more ident t wel b start at last k v got pg lt = rw (lt-ltb k 7 lt, filled)
 
 input_part : (ident : ℕ) (t : Target) (wel : Bool) (start at last : ℕ) (got : Got) (pg : List (Option ℕ)) (bs : List Bool) (k v : ℕ) → k + length bs < 8 →
-    goes_on ident (Input (sheet t wel start at last k v got pg)) bs ≡ Input (sheet t wel start at last (k + length bs) (pushes v bs) got pg)
+    goes_on ident (Input (sheet t wel start at last k v got pg)) bs ≡ Input (sheet t wel start at last (k + length bs) (pushes 128 v bs) got pg)
 input_part ident t wel start at last got pg [] k v lt = ap (λ n. Input (sheet t wel start at last n v got pg)) (omega arith)
 input_part ident t wel start at last got pg (b ∷ bs) k v lt =
     let e : k + 1 + length bs ≡ k + suc (length bs) = omega arith in
@@ -219,7 +201,7 @@ input_part ident t wel start at last got pg (b ∷ bs) k v lt =
 
 -- some bits over
 input_over : (ident : ℕ) (t : Target) (wel : Bool) (start at last : ℕ) (got : Got) (pg : List (Option ℕ)) (a : Bool) (bs : List Bool) → length bs < 7 →
-    goes_on ident (Input (sheet t wel start at last 0 0 got pg)) (a ∷ bs) ≡ Input (sheet t wel start at last (suc (length bs)) (pushes (pushed 0 a) bs) got pg)
+    goes_on ident (Input (sheet t wel start at last 0 0 got pg)) (a ∷ bs) ≡ Input (sheet t wel start at last (suc (length bs)) (pushes 128 (pushed 0 a) bs) got pg)
 input_over ident t wel start at last got pg a bs lt =
     let e : 1 + length bs ≡ suc (length bs) = omega arith in
     rw (input_part ident t wel start at last got pg bs 1 (pushed 0 a) (omega arith), e)
@@ -232,7 +214,7 @@ input_byte : (ident : ℕ) (t : Target) (wel : Bool) (start at last : ℕ) (got 
     goes_on ident (Input (sheet t wel start at last 0 0 got pg)) (a ∷ b ∷ c ∷ d ∷ e ∷ f ∷ g ∷ h ∷ bs) ≡
     goes_on ident (Input (sheet t wel start (rolled at last) last 0 0 (one_more got) (set pg at (Some (of_eight a b c d e f g h))))) bs
 input_byte ident t wel start at last got pg a b c d e f g h bs =
-    rw (pushes_is 0 (a ∷ b ∷ c ∷ d ∷ e ∷ f ∷ g ∷ h ∷ []) (number_lt (a ∷ b ∷ c ∷ d ∷ e ∷ f ∷ g ∷ h ∷ [])))
+    rw (pushes_is 128 0 (a ∷ b ∷ c ∷ d ∷ e ∷ f ∷ g ∷ h ∷ []) (number_lt (a ∷ b ∷ c ∷ d ∷ e ∷ f ∷ g ∷ h ∷ [])))
 
 -- where data bits lead
 data Led (t : Target) (wel : Bool) (start at last : ℕ) (got : Got) (pg : List (Option ℕ)) (bs : List Bool) (ph : Phase) : Type 0 where
@@ -247,7 +229,7 @@ led ident t wel start last (byte a b c d e f g h {bs} ch) at got pg =
     elim (led ident t wel start last ch (rolled at last) (one_more got) (set pg at (Some (of_eight a b c d e f g h))))
     [ whole at' e8 q ↦ whole at' (omega arith) (one ∙ q) | ragged at' k v got' pg' ne q ↦ ragged at' k v got' pg' (λ z. ne (omega arith)) (one ∙ q) ]
 led ident t wel start last (ends a bs lt) at got pg =
-    ragged at (length bs) (pushes (pushed 0 a) bs) got pg (λ z. omega arith) (input_over ident t wel start at last got pg a bs lt)
+    ragged at (length bs) (pushes 128 (pushed 0 a) bs) got pg (λ z. omega arith) (input_over ident t wel start at last got pg a bs lt)
 
 some_one : (xs : List ℕ) → (some_byte (gots One xs) ≡ true) × (some_byte (gots More xs) ≡ true)
 some_one [] = (refl, refl)
@@ -330,10 +312,10 @@ module _ (p : Shape) (w : Bool) (st lk : ℕ) where
       let all : List Bool = a ∷ b ∷ c ∷ d ∷ e ∷ f ∷ g ∷ h ∷ a' ∷ bs in
       let n : ℕ = of_eight a b c d e f g h in
       ap (entry p w st lk) (input_byte p.ident t true start 0 0 Nothing (o ∷ os) a b c d e f g h (a' ∷ bs) ∙ input_over p.ident t true start 0 0 One (Some n ∷ os) a' bs lt)
-      ∙ rw (ne_eqb (length all) 8 (omega arith)) (uneven t start 0 0 (length bs) (pushes (pushed 0 a') bs) One (Some n ∷ os))
+      ∙ rw (ne_eqb (length all) 8 (omega arith)) (uneven t start 0 0 (length bs) (pushes 128 (pushed 0 a') bs) One (Some n ∷ os))
   single t start y l o os cs ls (ends a bs lt) =
       ap (entry p w st lk) (input_over p.ident t true start 0 0 Nothing (o ∷ os) a bs lt)
-      ∙ rw (ne_eqb (length (a ∷ bs)) 8 (omega arith)) (uneven t start 0 0 (length bs) (pushes (pushed 0 a) bs) Nothing (o ∷ os))
+      ∙ rw (ne_eqb (length (a ∷ bs)) 8 (omega arith)) (uneven t start 0 0 (length bs) (pushes 128 (pushed 0 a) bs) Nothing (o ∷ os))
 
   -- an instruction with an address, by what it does at each address
   by_address : (acc : Access) (wel : Bool) (f : ℕ → List Bool → List Entry) → ((a : ℕ) → f a [] ≡ []) →

@@ -1,6 +1,5 @@
 -- The journal keeps what the chip shows.
 use Rattle.std.proofs.Common.{◌≡◌, ℕ, ◌%◌, ◌<◌, Bool, true, false, not, ◌&&◌, eqb, ltb, ◌⊎◌, List, [], ◌∷◌, ◌++◌, length, get_or, take, refl, ap, ◌∙◌, inl, inr}
-use Rattle.std.proofs.lemmas.Bool.{both_ways}
 use Rattle.rules.specs.declared.state.Level.{Level}
 use Rattle.rules.specs.declared.state.Level.TheVariants.{Float}
 use Rattle.rules.specs.declared.state.Instruction.{Instruction}
@@ -111,13 +110,13 @@ latched_late ident runs wel d ph e = refl
 
 -- the sample through a latch
 sample_aimed : (p : Shape) (cells : List ℕ) (ident : ℕ) (a : Access) (wel : Bool) (v sample sampled : ℕ) → SampleOk p cells true (aimed ident a wel v) sample sampled
-sample_aimed p cells ident access.Read wel v sample sampled = λ e. absurd (both_ways true e refl)
+sample_aimed p cells ident access.Read wel v sample sampled = λ e. cc
 sample_aimed p cells ident access.Write wel v sample sampled = tt
 sample_aimed p cells ident access.ReadIdent wel v sample sampled =
-    pick (λ ph. SampleOk p cells true ph sample sampled) (a10 v) _ _ (λ e. absurd (both_ways true e refl)) (λ e. absurd (both_ways true e refl))
+    pick (λ ph. SampleOk p cells true ph sample sampled) (a10 v) _ _ (λ e. cc) (λ e. cc)
 sample_aimed p cells ident access.WriteIdent wel v sample sampled =
     pick (λ ph. SampleOk p cells true ph sample sampled) (a10 v) _ _ tt tt
-sample_aimed p cells ident access.ReadUnique wel v sample sampled = λ e. absurd (both_ways true e refl)
+sample_aimed p cells ident access.ReadUnique wel v sample sampled = λ e. cc
 
 pub sample_latched : (p : Shape) (cells : List ℕ) (ident : ℕ) (d : Bool) (ph : Phase) (sample sampled : ℕ) → late ph ≡ true → SampleOk p cells false ph sample sampled → SampleOk p cells true (latched ident false false d ph) sample sampled
 sample_latched p cells ident d (Instructing n v) sample sampled e h = cc

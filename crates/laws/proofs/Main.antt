@@ -1,5 +1,5 @@
 -- The laws over whole runs.
-use Rattle.std.proofs.Common.{◌≡◌, ℕ, suc, ◌+◌, ◌*◌, ◌/◌, ◌%◌, ◌<◌, ◌≤◌, false, List, [], ◌∷◌, ◌++◌, length, get_or, take, drop, Some, None, Ok, Err, Option, sym, refl, ap, ◌∙◌, subst, inl, inr, arith, lit<, length-take}
+use Rattle.std.proofs.Common.{◌≡◌, ℕ, suc, ◌+◌, ◌*◌, ◌/◌, ◌%◌, ◌<◌, ◌≤◌, false, List, [], ◌∷◌, ◌++◌, length, get_or, take, drop, Some, None, Ok, Err, Option, sym, refl, ap, ◌∙◌, inl, inr, arith, lit<, length-take}
 use Rattle.std.proofs.lemmas.Bool.{eq-eqb, le-ltb, cases_lt}
 use Rattle.std.proofs.lemmas.List.{get_or-take, get_or_past, ext_get_or, length-append, length-drop, length-take-le, drop_all, drop_at}
 use Rattle.backing.specs.Faults.{raised}
@@ -51,8 +51,7 @@ answers_stand p lw birth h xs = by (unfit p (take (cell_count p) birth)) refl
     by : (o : Option Refusal) → unfit p (take (cell_count p) birth) ≡ o → answers p (chip_after p birth h) xs ≡ journal_answers p birth (law.journal_after p birth h) xs
     by None e = fit_answers p lw birth e xs _ _ (stands p lw birth e h)
     by (Some r) e =
-        ap (λ v. answers p v xs) (unfit_history p r (born p birth) e h)
-        ∙ unfit_answers p birth r e xs (law.journal_after p birth h) (born p birth) e
+        rw (unfit_history p r (born p birth) e h) (unfit_answers p birth r e xs (law.journal_after p birth h) (born p birth) e)
 
 -- ---- cells
 
@@ -80,7 +79,7 @@ fit_cells p birth fit j v s = by s.tie (stays_fit p birth j v fit s)
           count = count;
           len = row_length p birth _ count;
           past = row_past p birth _ count;
-          bytes = λ i h. m.now_is i (subst (λ n. i < n) m.len_is h);
+          bytes = λ i h. m.now_is i (omega arith);
           fitness = f ∙ sym fit;
         }
 
@@ -94,8 +93,7 @@ cells_stand p lw birth h = by (unfit p (take (cell_count p) birth)) refl
     by : (o : Option Refusal) → unfit p (take (cell_count p) birth) ≡ o → Cells p birth (chip_after p birth h) (law.journal_after p birth h)
     by None e = fit_cells p birth e _ _ (stands p lw birth e h)
     by (Some r) e =
-        subst (λ v. Cells p birth v (law.journal_after p birth h)) (sym (unfit_history p r (born p birth) e h))
-        (subst (λ j. Cells p birth (born p birth) j) (sym (unfit_journal p r birth e blank h)) (born_cells p birth))
+        rw (unfit_history p r (born p birth) e h, unfit_journal p r birth e blank h) (born_cells p birth)
 
 -- ---- captures
 
@@ -176,7 +174,7 @@ birth_fit p birth h f = by (unfit p (take (cell_count p) birth)) refl
 one_view : {p : Shape} {birth birth' : List ℕ} {j j' : Journal} {u v : View} → Tracks p birth j u → Tracks p birth' j' v → AtRest u → AtRest v → u.shift ≡ v.shift → Agree p birth birth' j j' → u ≡ v
 one_view {p} (tracks {cells = cells} ft m) (tracks {cells = cells'} ft' m') ru rv sh ag =
     let same : cells ≡ cells' = ext_get_or 0 cells cells' (m.len_is ∙ sym m'.len_is)
-    (λ i h. let k = subst (λ n. i < n) m.len_is h in m.now_is i k ∙ (ag.same_cells i k ∙ sym (m'.now_is i k))) in
+    (λ i h. let k : i < cell_count p = omega arith in m.now_is i k ∙ (ag.same_cells i k ∙ sym (m'.now_is i k))) in
     λ i. record {
       pins = record { clock = ag.same_c i; input = ag.same_d i; protect = ag.same_w i; hold = ag.same_h i };
       wel = ag.same_enabled i;
@@ -204,7 +202,7 @@ sameness_stands p lw birth birth' h h' bs bs' f f' r r' =
     let s = stands p lw birth (birth_fit p birth h f) h in
     let s' = stands p lw birth' (birth_fit p birth' h' f') h' in (
       (λ alike. alike_agree s.tie s'.tie
-          (tells p lw (chip_after p birth h) (chip_after p birth' h') r.deselected r.idle (rest_shift s.tie r.deselected) r'.deselected r'.idle (rest_shift s'.tie r'.deselected)
+          (tells p lw (chip_after p birth h) (chip_after p birth' h') r r' (rest_shift s.tie r.deselected) (rest_shift s'.tie r'.deselected)
           (cells_bytes p birth bs _ _ s) (cells_bytes p birth' bs' _ _ s') f f' alike)),
       (λ ag xs _. ap (λ v. answers p v xs) (one_view s.tie s'.tie r r' (rest_shift s.tie r.deselected ∙ sym (rest_shift s'.tie r'.deselected)) ag)),
     )
@@ -288,32 +286,24 @@ refused_capture_stands p v bytes room e says = by (unfit p v.cells) refl (refuse
 
 -- ---- page copies
 
+copied : (v : View) (o o' : Option Refusal) →
+    ((call.unless o v (call.unless o' v (record { view = v; levels = []; says = Ok 256 }))).says ≡ first_of o (first_of o' (Ok 256)))
+    × ((call.unless o v (call.unless o' v (record { view = v; levels = []; says = Ok 256 }))).view ≡ v)
+copied v (Some r) o' = (refl, refl)
+copied v None (Some r) = (refl, refl)
+copied v None None = (refl, refl)
+
 pub copies_stand : CopiesStand
 copies_stand p lw birth h page at room =
     let v = chip_after p birth h in
-    let j = law.journal_after p birth h in
-    let same : unfit p v.cells ≡ unfit p (take (cell_count p) birth) = (cells_stand p lw birth h).fitness in (
-      ap (λ o. (call.unless o v (call.unless (refused_copy p (rule.running v.cycle) page at room) v (record { view = v; levels = []; says = Ok 256 }))).says) same
-          ∙ by (unfit p (take (cell_count p) birth)) refl,
-      stays (unfit p v.cells) (refused_copy p (rule.running v.cycle) page at room),
-    )
+    let o' = refused_copy p (rule.running v.cycle) page at room in
+    (rw (cells_stand p lw birth h).fitness (by (unfit p (take (cell_count p) birth)) refl), (copied v (unfit p v.cells) o').1)
   where
     runs_same : {j : Journal} {v : View} → Tracks p birth j v → rule.running v.cycle ≡ note.cycle_runs j.entries
     runs_same (tracks ft m) = m.run_is
-
-    fit_says_copy : (v : View) (o : Option Refusal) → (call.unless o v (record { view = v; levels = []; says = Ok 256 })).says ≡ first_of o (Ok 256)
-    fit_says_copy v None = refl
-    fit_says_copy v (Some r) = refl
 
     by : (o : Option Refusal) → unfit p (take (cell_count p) birth) ≡ o →
         (call.unless o (chip_after p birth h) (call.unless (refused_copy p (rule.running (chip_after p birth h).cycle) page at room) (chip_after p birth h) (record { view = chip_after p birth h; levels = []; says = Ok 256 }))).says
         ≡ first_of o (first_of (refused_copy p (note.cycle_runs (law.journal_after p birth h).entries) page at room) (Ok 256))
     by (Some r) e = refl
-    by None e =
-        fit_says_copy (chip_after p birth h) (refused_copy p (rule.running (chip_after p birth h).cycle) page at room)
-        ∙ ap (λ r. first_of (refused_copy p r page at room) (Ok 256)) (runs_same (stands p lw birth e h).tie)
-
-    stays : (o o' : Option Refusal) → (call.unless o (chip_after p birth h) (call.unless o' (chip_after p birth h) (record { view = chip_after p birth h; levels = []; says = Ok 256 }))).view ≡ chip_after p birth h
-    stays (Some r) o' = refl
-    stays None (Some r) = refl
-    stays None None = refl
+    by None e = rw (← runs_same (stands p lw birth e h).tie) (copied (chip_after p birth h) None (refused_copy p (rule.running (chip_after p birth h).cycle) page at room)).0

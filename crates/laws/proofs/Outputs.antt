@@ -20,7 +20,7 @@ use Rattle.rules.specs.Tables.{a10, status_byte, bit_of, level_of}
 use Rattle.rules.specs.Rules as rule
 use Rattle.rules.specs.Rules.{View, running, judged, begun, latched, place, aimed, filled, shifted, shift_out, same_shown}
 use Rattle.laws.specs.Journal.{Entry, enabled, cycle_runs, byte_of, number, address, read_place, read_bit, puts_out, samples}
-use Rattle.laws.proofs.Bits.{goes_on, pick, goes_on_stays, number_lt, address_part, address_full, ident_size}
+use Rattle.laws.proofs.Bits.{goes_on, pick, goes_on_stays, number_below, address_part, address_full, ident_size}
 use Rattle.laws.proofs.Regions.{status_phase, output_phase, read_place_is}
 use Rattle.laws.proofs.Keeps.{vw, Mem, SampleOk}
 
@@ -148,7 +148,7 @@ module _ (p : Shape) (law : Lawful p) (birth : List ℕ) (es : List Entry) (cy :
         let A : ℕ = (a + length ds / 8) % 4294967296 in
         let dl : length ds ≡ length bits - 32 = length-drop 24 rest ∙ omega (arith, len) in
         let l24 : length (take 24 rest) ≡ 24 = length-take-le 24 rest ge in
-        let n24 = rw l24 at (number_lt (take 24 rest)) in
+        let n24 = number_below (take 24 rest) 24 (omega arith) in
         let phase : goes_on p.ident (Address acc wel 0 0) rest ≡ Output r A (length ds % 8) =
         address_full p.ident acc wel rest ge ∙ ap (λ x. goes_on p.ident x ds) aim ∙ output_phase p.ident r a ds (omega arith) in
         let cell : get_or cells (place p r A) 0 ≡ byte (read_place p i (address bits) ((length bits - 32) / 8)) =

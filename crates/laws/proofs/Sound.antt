@@ -1,5 +1,5 @@
 -- Writes put bytes, and lawful ones into the status and the lock cell: so a chip that is born fit stays fit.
-use Rattle.std.proofs.Common.{◌≡◌, ℕ, zero, suc, ◌+◌, ◌-◌, ◌*◌, ◌/◌, ◌%◌, ◌^◌, ◌<◌, ◌≤◌, Bool, true, false, cond, not, ◌&&◌, ◌||◌, leb, List, [], ◌∷◌, ◌++◌, length, get_or, take, drop, set, replicate, Some, None, Option, sym, refl, ap, ◌∙◌, subst, mod-lt, arith, lit<, lit≤, length-set}
+use Rattle.std.proofs.Common.{◌≡◌, ℕ, zero, suc, ◌+◌, ◌-◌, ◌*◌, ◌/◌, ◌%◌, ◌^◌, ◌<◌, ◌≤◌, Bool, true, false, cond, not, ◌&&◌, ◌||◌, leb, List, [], ◌∷◌, ◌++◌, length, get_or, take, drop, set, replicate, Some, None, Option, refl, ap, ◌∙◌, mod-lt, arith, lit<, lit≤, length-set}
 use lib.ListN.{length-replicate}
 use Rattle.std.proofs.lemmas.Bool.{leb-true, eqb-true, and_parts}
 use Rattle.std.proofs.lemmas.Nat.{pow_pos, pow-add}
@@ -10,7 +10,7 @@ use Rattle.rules.specs.declared.state.Instruction.TheVariants as name
 use Rattle.rules.specs.Shape.{Shape, Lawful, array_len, ident_at, status_at, lock_at}
 use Rattle.rules.specs.Tables.{kept, named, a10, page_of, or}
 use Rattle.laws.specs.Journal.{Entry, cycle_end, wrote, if_so, put_at, byte_of, number, bytes_in, placed, address, data_bits, wrsr, write, wrid, lid, lists, Noted, noted, closes, Journal, latches, noting, shifts, falls, cell}
-use Rattle.laws.proofs.Bits.{number_lt}
+use Rattle.laws.proofs.Bits.{number_lt, number_below}
 
 -- what may be put at a place
 pub record Sound (p : Shape) (i x : ℕ) : Type 0 where
@@ -105,12 +105,12 @@ status_sound : (p : Shape) (b : ℕ) → b < 256 → SoundEntry p (wrote (status
 status_sound p b h i y e =
     let q = one_put (status_at p) (kept b) i y e in
     let f = kept_kept b h in
-    subst (λ z. Sound p i z) q.1 (record { byte = f.0; status = λ _. f.1; lock = λ z. absurd (omega arith) })
+    rw (← q.1) (record { byte = f.0; status = λ _. f.1; lock = λ z. absurd (omega arith) })
 
 lock_sound : (p : Shape) → SoundEntry p (wrote (lock_at p) (Some 1 ∷ []))
 lock_sound p i y e =
     let q = one_put (lock_at p) 1 i y e in
-    subst (λ z. Sound p i z) q.1 (record { byte = lit< tt; status = λ z. absurd (omega arith); lock = λ _. lit≤ tt })
+    rw (← q.1) (record { byte = lit< tt; status = λ z. absurd (omega arith); lock = λ _. lit≤ tt })
 
 if_sound : (p : Shape) (x : Bool) (e : Entry) → (x ≡ true → SoundEntry p e) → SoundList p (if_so x e)
 if_sound p true e f = (f refl, tt)
@@ -121,20 +121,19 @@ module _ (p : Shape) (law : Lawful p) (w : Bool) (st lk : ℕ) where
   write_sound bs =
       let a : ℕ = address bs in
       if_sound p _ _ (λ _. low_sound p (page_of p a) (placed (replicate 256 None) (a % 256) (bytes_in (data_bits bs)))
-      (subst (λ n. page_of p a + n ≤ status_at p) (sym (length_placed (bytes_in (data_bits bs)) (replicate 256 None) (a % 256) ∙ length-replicate {A = Option ℕ} 256 None))
-      (let e = page_end a (array_len p) (2 ^ (p.bits - 8)) (array_pages p law.low) (pow_pos p.bits) in omega arith))
+      (omega (arith, length_placed (bytes_in (data_bits bs)) (replicate 256 None) (a % 256), length-replicate {A = Option ℕ} 256 None, page_end a (array_len p) (2 ^ (p.bits - 8)) (array_pages p law.low) (pow_pos p.bits)))
       (placed_small (data_bits bs) (replicate 256 None) (a % 256) (empty_small 256)))
 
   wrid_sound : (bs : List Bool) → SoundList p (wrid st lk p bs)
   wrid_sound bs =
       let a : ℕ = address bs in
       if_sound p _ _ (λ _. low_sound p (ident_at p) (placed (replicate p.ident None) (a % p.ident) (bytes_in (data_bits bs)))
-      (subst (λ n. ident_at p + n ≤ status_at p) (sym (length_placed (bytes_in (data_bits bs)) (replicate p.ident None) (a % p.ident) ∙ length-replicate {A = Option ℕ} p.ident None)) (omega arith))
+      (omega (arith, length_placed (bytes_in (data_bits bs)) (replicate p.ident None) (a % p.ident), length-replicate {A = Option ℕ} p.ident None))
       (placed_small (data_bits bs) (replicate p.ident None) (a % p.ident) (empty_small p.ident)))
 
   wrsr_sound : (bs : List Bool) → SoundList p (wrsr w st p bs)
   wrsr_sound bs =
-      if_sound p _ _ (λ e. status_sound p (number (drop 8 bs)) (subst (λ n. number (drop 8 bs) < 2 ^ n) (eqb-true (length (drop 8 bs)) 8 (and_parts _ _ e).0) (number_lt (drop 8 bs))))
+      if_sound p _ _ (λ e. let len = eqb-true (length (drop 8 bs)) 8 (and_parts _ _ e).0 in status_sound p (number (drop 8 bs)) (number_below (drop 8 bs) 8 (omega arith)))
 
   lid_sound : (bs : List Bool) → SoundList p (lid st p bs)
   lid_sound bs = if_sound p _ _ (λ _. lock_sound p)

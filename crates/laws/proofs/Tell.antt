@@ -18,7 +18,7 @@ use Rattle.rules.specs.declared.state.Phase.TheVariants.{Deselected, Status, Out
 use Rattle.rules.specs.Shape.{Shape, Lawful, array_len, unique_at, status_at, lock_at, cell_count}
 use Rattle.rules.specs.Tables.{there, level_number, level_of, bit_of, kept, unfit, status_byte, decoded}
 use Rattle.rules.specs.Rules.{View, moved, unless, step, after, answer, at_rest, place}
-use Rattle.laws.specs.Laws.{Action, send, as_number, of_bytes, Alike}
+use Rattle.laws.specs.Laws.{Action, send, as_number, of_bytes, AtRest, Alike}
 use Rattle.laws.proofs.Bits.{ident_size}
 use Rattle.laws.proofs.Plain.{calm, all_calm, plain, PlainlyAlike, alike_plainly}
 
@@ -161,16 +161,10 @@ below_7 P a b c d e f g (suc (suc (suc (suc (suc (suc (suc k))))))) lt = absurd 
 byte_from_levels : (a b : ℕ) → a < 256 → b < 256 → ((k : ℕ) → k < 8 → level_number (level_of (bit_of a k)) ≡ level_number (level_of (bit_of b k))) → a ≡ b
 byte_from_levels a b ha hb f = byte_from_bits a b ha hb (λ k h. same_bit (a / 2 ^ (7 - k)) (b / 2 ^ (7 - k)) (f k h))
 
--- what is said at a rise of C while a bit is out
-says_bit : (p : Shape) (d w wel : Bool) (cells : List ℕ) (b k : ℕ) (ph : Phase) →
-    said p (putting d w wel cells b k ph) 1 1 ≡ Ok (level_number (level_of (bit_of b k)))
-says_bit p d w wel cells b k ph = refl
-
 -- clocks, of which each is one turn of f
-clocks_by : (p : Shape) (f : ℕ → View) → ((k : ℕ) → k < 7 → go p (f k) (clk 1) ≡ f (suc k)) → (k n : ℕ) → k + n < 8 → go p (f k) (clk n) ≡ f (k + n)
-clocks_by p f t k zero h = ap f (omega arith)
-clocks_by p f t k (suc n) h =
-    ap (λ v. go p v (clk n)) (t k (omega arith)) ∙ (clocks_by p f t (suc k) n (omega arith) ∙ ap f (omega arith))
+clocks_by : (p : Shape) (f : ℕ → View) → ((k : ℕ) → k < 7 → go p (f k) (clk 1) ≡ f (suc k)) → (k n m : ℕ) → k + n ≡ m → m < 8 → go p (f k) (clk n) ≡ f m
+clocks_by p f t k zero m e h = ap f (omega arith)
+clocks_by p f t k (suc n) m e h = ap (λ v. go p v (clk n)) (t k (omega arith)) ∙ clocks_by p f t (suc k) n m (omega arith) h
 
 -- ---- a region, read byte by byte
 
@@ -182,21 +176,16 @@ module _ (p : Shape) (w wel : Bool) (cells : List ℕ) (r : Region) (a : ℕ) wh
   ticks = below_7 Ticks refl refl refl refl refl refl refl
 
   at_bit : (k : ℕ) → k < 8 → go p (reading p w wel cells r a 0) (clk k) ≡ reading p w wel cells r a k
-  at_bit k h = clocks_by p (reading p w wel cells r a) ticks 0 k (omega arith) ∙ ap (reading p w wel cells r a) (omega arith)
-
-  last_tick : go p (reading p w wel cells r a 7) (clk 1) ≡ reading p w wel cells r ((a + 1) % 4294967296) 0
-  last_tick = refl
+  at_bit k h = clocks_by p (reading p w wel cells r a) ticks 0 k k (omega arith) h
 
   round : go p (reading p w wel cells r a 0) (clk 8) ≡ reading p w wel cells r ((a + 1) % 4294967296) 0
-  round = go_append p (reading p w wel cells r a 0) (clk 7) (clk 1) ∙ (ap (λ v. go p v (clk 1)) (at_bit 7 (lit< tt)) ∙ last_tick)
+  round = go_append p (reading p w wel cells r a 0) (clk 7) (clk 1) ∙ ap (λ v. go p v (clk 1)) (at_bit 7 (lit< tt))
 
 -- after i bytes, the next is i on
 at_byte : (p : Shape) (w wel : Bool) (cells : List ℕ) (r : Region) (a i : ℕ) → a + i < 4294967296 → go p (reading p w wel cells r a 0) (rounds i) ≡ reading p w wel cells r (a + i) 0
 at_byte p w wel cells r a zero h = ap (λ n. reading p w wel cells r n 0) (omega arith)
 at_byte p w wel cells r a (suc i) h =
-    let lt : a + i + 1 < 4294967296 = omega arith in
-    let s : a + i + 1 ≡ a + suc i = omega arith in
-    let e : (a + i + 1) % 4294967296 ≡ a + suc i = mod-eq_of_lt lt ∙ s in
+    let e : (a + i + 1) % 4294967296 ≡ a + suc i = omega arith in
     go_append p (reading p w wel cells r a 0) (rounds i) (clk 8) ∙
     (ap (λ v. go p v (clk 8)) (at_byte p w wel cells r a i (omega arith)) ∙
     (round p w wel cells r (a + i) ∙ ap (λ n. reading p w wel cells r n 0) e))
@@ -264,11 +253,8 @@ module _ (p : Shape) (w wel : Bool) (cells : List ℕ) where
   leads : (c d h : Bool) → Leads c d h
   leads = three Leads refl refl refl refl refl refl refl refl
 
-  last_fall : go p asked (send 1 0 ∷ []) ≡ asking p w wel cells 0
-  last_fall = refl
-
   status_opens : (c d h : Bool) → Opens (5 ∷ []) (asking p w wel cells 0) c d h
-  status_opens c d h = go_append p (rest c d w h wel cells) asks_so_far (send 1 0 ∷ []) ∙ (ap (λ y. go p y (send 1 0 ∷ [])) (leads c d h) ∙ last_fall)
+  status_opens c d h = go_append p (rest c d w h wel cells) asks_so_far (send 1 0 ∷ []) ∙ ap (λ y. go p y (send 1 0 ∷ [])) (leads c d h)
 
   abbrev Asks : ℕ → Type 0
   Asks k = go p (asking p w wel cells k) (clk 1) ≡ asking p w wel cells (suc k)
@@ -277,12 +263,11 @@ module _ (p : Shape) (w wel : Bool) (cells : List ℕ) where
   asks = below_7 Asks refl refl refl refl refl refl refl
 
   at_status : (k : ℕ) → k < 8 → go p (asking p w wel cells 0) (clk k) ≡ asking p w wel cells k
-  at_status k h = clocks_by p (asking p w wel cells) asks 0 k (omega arith) ∙ ap (asking p w wel cells) (omega arith)
+  at_status k h = clocks_by p (asking p w wel cells) asks 0 k k (omega arith) h
 
   status_comes : (c d h : Bool) (k : ℕ) → k < 8 → said p (go p (rest c d w h wel cells) (opens (5 ∷ []) ++ clk k)) 1 1 ≡ Ok (level_number (level_of (bit_of (status_now p wel cells) k)))
   status_comes c d h k lt =
       ap (λ y. said p y 1 1) (go_append p (rest c d w h wel cells) (opens (5 ∷ [])) (clk k) ∙ (ap (λ y. go p y (clk k)) (status_opens c d h) ∙ at_status k lt))
-      ∙ says_bit p true w wel cells (status_now p wel cells) k (Status k)
 
 status_alike : (p : Shape) (c d w h wel wel' : Bool) (cells cells' : List ℕ) → PlainlyAlike p (rest c d w h wel cells) (rest c d w h wel' cells') → (k : ℕ) → k < 8 →
     level_number (level_of (bit_of (status_now p wel cells) k)) ≡ level_number (level_of (bit_of (status_now p wel' cells') k))
@@ -396,8 +381,8 @@ module _ (p : Shape) (law : Lawful p) (c d w h wel wel' : Bool) (cells cells' : 
 
 -- ---- the whole
 
-as_rest : (u : View) → u.stretch ≡ Deselected → u.cycle ≡ Idle → u.shift ≡ at_rest → u ≡ rest u.pins.clock u.pins.input u.pins.protect u.pins.hold u.wel u.cells
-as_rest u s c q = λ i. record { pins = u.pins; wel = u.wel; cycle = c i; stretch = s i; shift = q i; cells = u.cells }
+as_rest : (u : View) → AtRest u → u.shift ≡ at_rest → u ≡ rest u.pins.clock u.pins.input u.pins.protect u.pins.hold u.wel u.cells
+as_rest u r q = λ i. record { pins = u.pins; wel = u.wel; cycle = r.idle i; stretch = r.deselected i; shift = q i; cells = u.cells }
 
 -- chips at rest with these levels, latch and cells
 resting : (p : Shape) → Lawful p → (x y : Pins) (wel wel' : Bool) (cells cells' : List ℕ) → Bytes cells → Bytes cells' → unfit p cells ≡ None → unfit p cells' ≡ None →
@@ -412,17 +397,16 @@ resting p law x y wel wel' cells cells' b b' f f' al =
     let ew : x.protect ≡ y.protect = same_pin x.protect y.protect (moved p ux (Protect true)) (moved p vy (Protect true)) (says 3 (tt, tt)) in
     let eh : x.hold ≡ y.hold = same_pin x.hold y.hold (moved p ux (Hold true)) (moved p vy (Hold true)) (says 4 (tt, tt)) in
     let al2 : PlainlyAlike p (rest x.clock x.input x.protect x.hold wel cells) (rest x.clock x.input x.protect x.hold wel' cells') =
-    subst (PlainlyAlike p (rest x.clock x.input x.protect x.hold wel cells)) (λ i. rest (sym ec i) (sym ed i) (sym ew i) (sym eh i) wel' cells') al in (
+    rw (← ec, ← ed, ← ew, ← eh) at al in (
       λ i. levels (ec i) (ed i) (ew i) (eh i),
       (status_same p law x.clock x.input x.protect x.hold wel wel' cells cells' b b' al2 (fit_status p cells f) (fit_status p cells' f')).0,
       cell_alike p law x.clock x.input x.protect x.hold wel wel' cells cells' b b' al2 (fit_status p cells f) (fit_status p cells' f'),
     )
 
-pub tells : (p : Shape) → Lawful p → (u v : View) →
-    u.stretch ≡ Deselected → u.cycle ≡ Idle → u.shift ≡ at_rest → v.stretch ≡ Deselected → v.cycle ≡ Idle → v.shift ≡ at_rest →
+pub tells : (p : Shape) → Lawful p → (u v : View) → AtRest u → AtRest v → u.shift ≡ at_rest → v.shift ≡ at_rest →
     Bytes u.cells → Bytes v.cells → unfit p u.cells ≡ None → unfit p v.cells ≡ None →
     Alike p u v →
     (u.pins ≡ v.pins) × (u.wel ≡ v.wel) × ((i : ℕ) → i < cell_count p → get_or u.cells i 0 ≡ get_or v.cells i 0)
-tells p law u v su cu qu sv cv qv b b' f f' al =
+tells p law u v ru rv qu qv b b' f f' al =
     resting p law u.pins v.pins u.wel v.wel u.cells v.cells b b' f f'
-    (subst₂ (PlainlyAlike p) (as_rest u su cu qu) (as_rest v sv cv qv) (alike_plainly p u v f f' al))
+    (subst₂ (PlainlyAlike p) (as_rest u ru qu) (as_rest v rv qv) (alike_plainly p u v f f' al))
