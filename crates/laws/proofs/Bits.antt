@@ -1,8 +1,8 @@
 -- What the bits of a stretch come to: the phase that they lead to lists what the journal lists.
 use Rattle.std.proofs.Common.{◌≡◌, ℕ, suc, ◌+◌, ◌-◌, ◌*◌, ◌%◌, ◌^◌, ◌<◌, ◌≤◌, Bool, true, false, cond, ◌&&◌, eqb, ltb, leb, List, [], ◌∷◌, ◌++◌, length, take, drop, set, replicate, Some, None, Option, sym, refl, ap, ◌∙◌, inl, inr, mod-eq_of_lt, arith}
-use native.Mathlib.Nat.{mod_self, pow-succ', pow-le-pow_right}
-use lib.Dec.{eqb-suc-zero}
-use lib.Seq.{take-set-lt}
+use Rattle.std.proofs.Math.Nat.{mod_self, pow-succ', pow-le-pow_right}
+use Rattle.std.proofs.Math.Dec.{eqb-suc-zero}
+use Rattle.std.proofs.Math.Seq.{take-set-lt}
 use Rattle.std.proofs.lemmas.Bool.{cond_both, eq-eqb, ne_eqb, le-leb, lt-ltb, le-ltb, cases_lt, and_from, and_right}
 use Rattle.std.proofs.lemmas.List.{take-append-drop, length-set, length-take-le, length-replicate, take-replicate, drop_at, drop-drop, drop_all}
 use Rattle.std.proofs.lemmas.Nat.{mul-le, mod_below}
@@ -225,7 +225,7 @@ led : (ident : ℕ) (t : Target) (wel : Bool) (start last : ℕ) {bs : List Bool
     Led t wel start at last got pg bs (goes_on ident (Input (sheet t wel start at last 0 0 got pg)) bs)
 led ident t wel start last done at got pg = whole at refl refl
 led ident t wel start last (byte a b c d e f g h {bs} ch) at got pg =
-    let one : goes_on ident (Input (sheet t wel start at last 0 0 got pg)) (a ∷ b ∷ c ∷ d ∷ e ∷ f ∷ g ∷ h ∷ bs) ≡ goes_on ident (Input (sheet t wel start (rolled at last) last 0 0 (one_more got) (set pg at (Some (of_eight a b c d e f g h))))) bs = input_byte ident t wel start at last got pg a b c d e f g h bs in
+    let one = input_byte ident t wel start at last got pg a b c d e f g h bs in
     elim (led ident t wel start last ch (rolled at last) (one_more got) (set pg at (Some (of_eight a b c d e f g h))))
     [ whole at' e8 q ↦ whole at' (omega arith) (one ∙ q) | ragged at' k v got' pg' ne q ↦ ragged at' k v got' pg' (λ z. ne (omega arith)) (one ∙ q) ]
 led ident t wel start last (ends a bs lt) at got pg =

@@ -1,7 +1,7 @@
 -- Each taken event keeps the tie between journal and chip.
 use Rattle.std.proofs.Common.{◌≡◌, ℕ, zero, suc, ◌+◌, ◌<◌, Bool, true, false, not, leb, List, [], ◌∷◌, ◌++◌, length, get_or, take, None, Option, sym, refl, ap, ◌∙◌, inl, inr, append_assoc, append-nil, arith, length-append}
-use native.Mathlib.Nat.{suc-sub-suc, sub-zero}
-use lib.Dec.{leb-zero, leb-suc-suc, leb-suc-zero}
+use Rattle.std.proofs.Math.Nat.{suc-sub-suc, sub-zero}
+use Rattle.std.proofs.Math.Dec.{leb-zero, leb-suc-suc, leb-suc-zero}
 use Rattle.std.proofs.lemmas.Bool.{eq-eqb, ne_eqb, lt-ltb, le-ltb, cases_lt}
 use Rattle.std.proofs.lemmas.List.{take_at}
 use Rattle.rules.specs.declared.state.Level.{Level}

@@ -14,7 +14,7 @@ use Rattle.rules.specs.declared.state.Shift.{Shift}
 use Rattle.rules.specs.declared.state.Page.{Page}
 use Rattle.rules.specs.declared.state.Cycle.{Cycle}
 use Rattle.rules.specs.declared.state.Phase.{Phase}
-use Rattle.rules.specs.declared.state.Phase.TheVariants.{Deselected, Instruction as Instructing, Ignored, Enable, Disable, Status, Address, Output, Input}
+use Rattle.rules.specs.declared.state.Phase.TheVariants.{Ignored, Enable, Disable, Status, Address, Output, Input}
 use Rattle.rules.specs.Shape.{Shape, Lawful, array_len, ident_at, unique_at, status_at, cell_count}
 use Rattle.rules.specs.Tables.{a10, status_byte, bit_of, level_of}
 use Rattle.rules.specs.Rules as rule
@@ -24,62 +24,49 @@ use Rattle.laws.proofs.Bits.{goes_on, pick, goes_on_stays, number_below, address
 use Rattle.laws.proofs.Regions.{status_phase, output_phase, read_place_is}
 use Rattle.laws.proofs.Keeps.{vw, Mem, SampleOk}
 
--- phases that put nothing out
-abbrev silent : Phase → Bool
-silent Deselected = false
-silent (Instructing n v) = false
-silent (Status k) = false
-silent (Output r a k) = false
-silent ph = true
-
-silent_shifted : (p : Shape) (v : View) (held : Bool) (ph : Phase) → silent ph ≡ true → shifted p v held ph ≡ same_shown v.shift held
-silent_shifted p v held (Status k) e = cc
-silent_shifted p v held (Output r a k) e = cc
-silent_shifted p v held ph e = refl
-
-silent_sample : (p : Shape) (cells : List ℕ) (due : Bool) (ph : Phase) (sample sampled : ℕ) → silent ph ≡ true → SampleOk p cells due ph sample sampled
-silent_sample p cells due (Instructing n v) sample sampled e = cc
-silent_sample p cells due (Status k) sample sampled e = cc
-silent_sample p cells due (Output r a k) sample sampled e = cc
-silent_sample p cells due ph sample sampled e = tt
-
-silent_input : (ident : ℕ) (g : Page) (rest : List Bool) → silent (goes_on ident (Input g) rest) ≡ true
-silent_input ident g [] = refl
-silent_input ident g (b ∷ rest) = silent_input ident (filled g b) rest
-
--- an access whose aim is a write
-abbrev Writes : ℕ → Access → Type 0
-Writes ident acc = (wel : Bool) (a : ℕ) (rest : List Bool) → silent (goes_on ident (aimed ident acc wel a) rest) ≡ true
-
-silent_address : (ident : ℕ) (acc : Access) → Writes ident acc → (rest : List Bool) (wel : Bool) (n v : ℕ) → silent (goes_on ident (Address acc wel n v) rest) ≡ true
-silent_address ident acc h [] wel n v = refl
-silent_address ident acc h (b ∷ rest) wel n v =
-    pick (λ ph. silent (goes_on ident ph rest) ≡ true) (ltb n 23) _ _
-    (silent_address ident acc h rest wel (n + 1) (rule.pushed_address v b)) (h wel (rule.pushed_address v b) rest)
-
-write_writes : (ident : ℕ) → Writes ident access.Write
-write_writes ident wel a rest = silent_input ident (rule.empty target.Array wel a (a % 256) 255) rest
-
-ident_writes : (ident : ℕ) → Writes ident access.WriteIdent
-ident_writes ident wel a rest =
-    pick (λ ph. silent (goes_on ident ph rest) ≡ true) (a10 a) _ _
-    (silent_input ident (rule.empty target.Lock wel a 0 0) rest) (silent_input ident (rule.empty target.Ident wel a (a % ident) (ident - 1)) rest)
-
 -- the output side after a shifting fall, and that its sample is in order
 pub record Shifts (p : Shape) (v : View) (held : Bool) (ph : Phase) (last : Level) (sampled : ℕ) : Type 0 where
   pub sample : ℕ
   pub shift_is : shifted p v held ph ≡ record { held = held; shown = last; sample = sample }
   pub sample_is : SampleOk p v.cells false ph sample sampled
 
-stays : (p : Shape) (v : View) (held : Bool) (ph : Phase) (sampled : ℕ) → silent ph ≡ true → Shifts p v held ph v.shift.shown sampled
-stays p v held ph sampled e =
-    record { sample = v.shift.sample; shift_is = silent_shifted p v held ph e; sample_is = silent_sample p v.cells false ph v.shift.sample sampled e }
+-- ---- phases that put nothing out
+
+module _ (p : Shape) (v : View) (held : Bool) (sampled : ℕ) where
+  abbrev Still : Phase → Type 0
+  Still ph = Shifts p v held ph v.shift.shown sampled
+
+  still_at : (ph : Phase) → shifted p v held ph ≡ same_shown v.shift held → SampleOk p v.cells false ph v.shift.sample sampled → Still ph
+  still_at ph e s = record { sample = v.shift.sample; shift_is = e; sample_is = s }
+
+  still_ignored : (rest : List Bool) → Still (goes_on p.ident Ignored rest)
+  still_ignored rest = rw (goes_on_stays p.ident Ignored (λ _. refl) rest) (still_at Ignored refl tt)
+
+  still_input : (g : Page) (rest : List Bool) → Still (goes_on p.ident (Input g) rest)
+  still_input g [] = still_at (Input g) refl tt
+  still_input g (b ∷ rest) = still_input (filled g b) rest
+
+  -- an access whose aim is a write
+  abbrev Writes : Access → Type 0
+  Writes acc = (wel : Bool) (a : ℕ) (rest : List Bool) → Still (goes_on p.ident (aimed p.ident acc wel a) rest)
+
+  still_address : (acc : Access) → Writes acc → (rest : List Bool) (wel : Bool) (n a : ℕ) → Still (goes_on p.ident (Address acc wel n a) rest)
+  still_address acc h [] wel n a = still_at (Address acc wel n a) refl tt
+  still_address acc h (b ∷ rest) wel n a =
+      pick (λ ph. Still (goes_on p.ident ph rest)) (ltb n 23) _ _
+      (still_address acc h rest wel (n + 1) (rule.pushed_address a b)) (h wel (rule.pushed_address a b) rest)
+
+  ident_writes : Writes access.WriteIdent
+  ident_writes wel a rest =
+      pick (λ ph. Still (goes_on p.ident ph rest)) (a10 a) _ _
+      (still_input (rule.empty target.Lock wel a 0 0) rest) (still_input (rule.empty target.Ident wel a (a % p.ident) (p.ident - 1)) rest)
 
 -- ---- the status byte
 
-same_choice : (t : Bool) (a b x y : ℕ) → a ≡ x → b ≡ y → elim t as (λ _. ℕ) [ true ↦ a | false ↦ b ] ≡ cond t x y
-same_choice true a b x y e f = e
-same_choice false a b x y e f = f
+-- what both ways of a test come to
+chosen : (t : Bool) (a b x : ℕ) → (t ≡ true → a ≡ x) → (t ≡ false → b ≡ x) → elim t as (λ _. ℕ) [ true ↦ a | false ↦ b ] ≡ x
+chosen true a b x e f = e refl
+chosen false a b x e f = f refl
 
 status_out : (p : Shape) (v : View) (held : Bool) (k sampled status : ℕ) → v.shift.sample ≡ sampled → status_byte (get_or v.cells (status_at p) 0) v.wel (running v.cycle) ≡ status →
     Shifts p v held (Status k) (level_of (bit_of (cond (eqb k 0) status sampled) k)) (cond (eqb k 0) status sampled)
@@ -87,20 +74,16 @@ status_out p v held k sampled status e f =
     record {
       sample = cond (eqb k 0) status sampled;
       shift_is = ap {B = Shift} (λ byte. record { held = held; shown = level_of (bit_of byte k); sample = byte })
-          (same_choice (eqb k 0) (status_byte (get_or v.cells (status_at p) 0) v.wel (running v.cycle)) v.shift.sample status sampled f e);
+          (chosen (eqb k 0) _ _ (cond (eqb k 0) status sampled) (λ z. rw z f) (λ z. rw z e));
       sample_is = refl;
     }
 
 -- ---- a byte of a region
 
-first_choice : (t : Bool) (a b : ℕ) → (t ≡ false → b ≡ a) → elim t as (λ _. ℕ) [ true ↦ a | false ↦ b ] ≡ a
-first_choice true a b h = refl
-first_choice false a b h = h refl
-
 region_out : (p : Shape) (v : View) (held : Bool) (r : Region) (a k sampled : ℕ) → SampleOk p v.cells true (Output r a k) v.shift.sample sampled →
     Shifts p v held (Output r a k) (level_of (bit_of (get_or v.cells (place p r a) 0) k)) sampled
 region_out p v held r a k sampled so =
-    let e = first_choice (eqb k 0) (get_or v.cells (place p r a) 0) v.shift.sample so in
+    let e = chosen (eqb k 0) (get_or v.cells (place p r a) 0) v.shift.sample (get_or v.cells (place p r a) 0) (λ _. refl) so in
     record {
       sample = get_or v.cells (place p r a) 0;
       shift_is = ap {B = Shift} (λ byte. record { held = held; shown = level_of (bit_of byte k); sample = byte }) e;
@@ -135,7 +118,7 @@ module _ (p : Shape) (law : Lawful p) (birth : List ℕ) (es : List Entry) (cy :
     read_none : (i : Instruction) (acc : Access) → length rest < 24 → Shifts p v held (goes_on p.ident (Address acc wel 0 0) rest) (read_bit p byte i bits last) sampled
     read_none i acc lt =
         rw (address_part p.ident acc wel rest lt, lt-leb 32 (length bits) (omega (arith, len)))
-        (stays p v held (Address acc wel (length rest) (number rest)) sampled refl)
+        (still_at p v held sampled (Address acc wel (length rest) (number rest)) refl tt)
 
     -- a whole one: r is the region
     read_some : (i : Instruction) (acc : Access) (r : Region) → aimed p.ident acc wel (number (take 24 rest)) ≡ Output r (number (take 24 rest)) 0 →
@@ -193,16 +176,16 @@ module _ (p : Shape) (law : Lawful p) (birth : List ℕ) (es : List Entry) (cy :
     -- by the instruction
     pub outs : (i : Instruction) → SampleOk p cells true (goes_on p.ident (begun wel i) rest) sample sampled →
         Shifts p v held (goes_on p.ident (begun wel i) rest) (puts_out p byte (samples status sampled i bits) i bits last) (samples status sampled i bits)
-    outs name.Wren so = stays p v held _ sampled (ap silent (goes_on_stays p.ident Enable (λ _. refl) rest))
-    outs name.Wrdi so = stays p v held _ sampled (ap silent (goes_on_stays p.ident Disable (λ _. refl) rest))
+    outs name.Wren so = rw (goes_on_stays p.ident Enable (λ _. refl) rest) (still_at p v held sampled Enable refl tt)
+    outs name.Wrdi so = rw (goes_on_stays p.ident Disable (λ _. refl) rest) (still_at p v held sampled Disable refl tt)
     outs name.Rdsr so = rdsr_out so
-    outs name.Wrsr so = stays p v held _ sampled (silent_input p.ident (rule.empty target.Status wel 0 0 0) rest)
+    outs name.Wrsr so = still_input p v held sampled (rule.empty target.Status wel 0 0 0) rest
     outs name.Read so = read_any name.Read access.Read region.Array refl (λ j. (read_place_is p law (number (take 24 rest)) j).0) array_below so
-    outs name.Write so = stays p v held _ sampled (silent_address p.ident access.Write (write_writes p.ident) rest wel 0 0)
+    outs name.Write so = still_address p v held sampled access.Write (λ wl a more. still_input p v held sampled (rule.empty target.Array wl a (a % 256) 255) more) rest wel 0 0
     outs name.RdidRdls so = ident_out (a10 (number (take 24 rest))) refl so
-    outs name.WridLid so = stays p v held _ sampled (silent_address p.ident access.WriteIdent (ident_writes p.ident) rest wel 0 0)
+    outs name.WridLid so = still_address p v held sampled access.WriteIdent (ident_writes p v held sampled) rest wel 0 0
     outs name.Rduid so = read_any name.Rduid access.ReadUnique region.Unique refl (λ j. (read_place_is p law (number (take 24 rest)) j).2) unique_below so
-    outs name.Unknown so = stays p v held _ sampled (ap silent (goes_on_stays p.ident Ignored (λ _. refl) rest))
+    outs name.Unknown so = still_ignored p v held sampled rest
 
     pub ignores : Shifts p v held (goes_on p.ident Ignored rest) last sampled
-    ignores = stays p v held _ sampled (ap silent (goes_on_stays p.ident Ignored (λ _. refl) rest))
+    ignores = still_ignored p v held sampled rest

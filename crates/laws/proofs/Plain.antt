@@ -3,7 +3,7 @@ use Rattle.std.proofs.Common.{◌≡◌, ℕ, Bool, true, false, ◌&&◌, T, Li
 use Rattle.backing.specs.declared.refusal.Refusal.{Refusal}
 use Rattle.backing.specs.declared.fault.Fault.{Fault}
 use Rattle.rules.specs.declared.state.Event.{Event}
-use Rattle.rules.specs.declared.state.Event.TheVariants.{Select, Clock, Data, Protect, Hold, CycleEnd, Power}
+use Rattle.rules.specs.declared.state.Event.TheVariants.{Select, Clock, Hold, CycleEnd}
 use Rattle.rules.specs.declared.state.Cycle.TheVariants.{Busy}
 use Rattle.rules.specs.declared.state.Phase.{Phase}
 use Rattle.rules.specs.declared.state.Phase.TheVariants.{Input}
@@ -47,16 +47,16 @@ unless_cells : (v u : View) (o : Option Refusal) → u.cells ≡ v.cells → (af
 unless_cells v u None e = e
 unless_cells v u (Some r) e = refl
 
+moved_cells : (p : Shape) (v : View) (e : Event) → T (calm (Ok e)) → (moved p v e).cells ≡ v.cells
+moved_cells p v (Select true) c = select_cells p v v.shift.held
+moved_cells p v (Clock true) c = rise_cells p v v.shift.held
+moved_cells p v (Clock false) c = fall_cells p v v.shift.held
+moved_cells p v (Hold l) c = hold_cells v l v.pins.clock
+moved_cells p v CycleEnd c = absurd c
+moved_cells p v e c = refl
+
 does_cells : (p : Shape) (v : View) (x : Result Event Refusal) → T (calm x) → (after v (does p v x)).cells ≡ v.cells
-does_cells p v (Ok (Select true)) c = unless_cells v (moved p v (Select true)) (refuses v (Select true)) (select_cells p v v.shift.held)
-does_cells p v (Ok (Select false)) c = unless_cells v (moved p v (Select false)) (refuses v (Select false)) refl
-does_cells p v (Ok (Clock true)) c = unless_cells v (moved p v (Clock true)) (refuses v (Clock true)) (rise_cells p v v.shift.held)
-does_cells p v (Ok (Clock false)) c = unless_cells v (moved p v (Clock false)) (refuses v (Clock false)) (fall_cells p v v.shift.held)
-does_cells p v (Ok (Data l)) c = unless_cells v (moved p v (Data l)) (refuses v (Data l)) refl
-does_cells p v (Ok (Protect l)) c = unless_cells v (moved p v (Protect l)) (refuses v (Protect l)) refl
-does_cells p v (Ok (Hold l)) c = unless_cells v (moved p v (Hold l)) (refuses v (Hold l)) (hold_cells v l v.pins.clock)
-does_cells p v (Ok CycleEnd) c = absurd c
-does_cells p v (Ok Power) c = unless_cells v (moved p v Power) (refuses v Power) refl
+does_cells p v (Ok e) c = unless_cells v (moved p v e) (refuses v e) (moved_cells p v e c)
 does_cells p v (Err r) c = refl
 
 -- an event that ends no cycle leaves the cells

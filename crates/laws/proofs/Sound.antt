@@ -1,7 +1,7 @@
 -- Writes put bytes, and lawful ones into the status and the lock cell: so a chip that is born fit stays fit.
-use Rattle.std.proofs.Common.{◌≡◌, ℕ, zero, suc, ◌+◌, ◌-◌, ◌*◌, ◌/◌, ◌%◌, ◌^◌, ◌<◌, ◌≤◌, Bool, true, false, cond, not, ◌&&◌, ◌||◌, leb, List, [], ◌∷◌, ◌++◌, length, get_or, take, drop, set, replicate, Some, None, Option, refl, ap, ◌∙◌, mod-lt, arith, lit<, lit≤, length-set}
-use lib.ListN.{length-replicate}
-use Rattle.std.proofs.lemmas.Bool.{leb-true, eqb-true, and_parts}
+use Rattle.std.proofs.Common.{◌≡◌, ℕ, zero, suc, ◌+◌, ◌-◌, ◌*◌, ◌/◌, ◌%◌, ◌^◌, ◌<◌, ◌≤◌, Bool, true, false, cond, not, ◌&&◌, ◌||◌, leb, List, [], ◌∷◌, ◌++◌, length, get_or, take, drop, set, replicate, Some, None, Option, inl, inr, refl, ap, ◌∙◌, mod-lt, arith, lit<, lit≤, length-set}
+use Rattle.std.proofs.lemmas.Bool.{cases_lt, leb-true, eqb-true, and_parts}
+use Rattle.std.proofs.lemmas.List.{get_or_past, length-replicate}
 use Rattle.std.proofs.lemmas.Nat.{pow_pos, pow-add}
 use Rattle.rules.specs.declared.state.Event.{Event}
 use Rattle.rules.specs.declared.state.Event.TheVariants.{Select, Clock, CycleEnd, Power}
@@ -46,9 +46,7 @@ put_in place ps i y e = at (leb place i) refl e
     at false q f = cc
 
 inside : (ps : List (Option ℕ)) (k y : ℕ) → get_or ps k None ≡ Some y → k < length ps
-inside [] k y e = cc
-inside (o ∷ ps) zero y e = omega arith
-inside (o ∷ ps) (suc k) y e = let h = inside ps k y e in omega arith
+inside ps k y e = elim (cases_lt k (length ps)) [ inl lt ↦ lt | inr ge ↦ cc (get_or_past ps k None ge) ]
 
 abbrev Small : List (Option ℕ) → Type 0
 Small ps = (k y : ℕ) → get_or ps k None ≡ Some y → y < 256
