@@ -359,8 +359,7 @@ module _ (p : Shape) (w : Bool) (st lk : ℕ) where
   write_in : (a : ℕ) (ds : List Bool) → entry p w st lk (goes_on p.ident (aimed p.ident access.Write true a) ds) ≡ written a ds
   write_in a ds =
       let len : length (replicate {A = Option ℕ} 256 None) ≡ 256 = length-replicate {A = Option ℕ} 256 None in
-      paged target.Array a (a % 256) 255 256 (replicate 256 None) (page_open p st (page_of p a)) (omega arith) (omega arith) (mod_below a 256 (omega arith)) (λ got b. refl) (λ q. refl) (chunks ds) ∙
-      ap (λ x. if_so (whole_bytes ds && page_open p st (page_of p a)) (wrote (page_of p a) (placed x (a % 256) (bytes_in ds)))) (take-replicate 256 256 None (omega arith))
+      paged target.Array a (a % 256) 255 256 (replicate 256 None) (page_open p st (page_of p a)) (omega arith) (omega arith) (mod_below a 256 (omega arith)) (λ got b. refl) (λ q. refl) (chunks ds)
 
   ident_in : 0 < p.ident → p.ident ≤ 256 → (a : ℕ) (ds : List Bool) → entry p w st lk (goes_on p.ident (aimed p.ident access.WriteIdent true a) ds) ≡ ident_or_lock a ds
   ident_in pos few a ds =

@@ -31,6 +31,10 @@ pub record Mem (p : Shape) (birth : List ℕ) (es : List Entry) (cy : Cycle) (ce
   pub now_is : (i : ℕ) → i < cell_count p → get_or cells i 0 ≡ byte_of birth i false es
   pub then_is : (i : ℕ) → i < cell_count p → get_or (pend p cy cells) i 0 ≡ byte_of birth i true es
 
+-- the phase of a stretch after the eight bits that were judged, and the rest
+abbrev pub judged_on : ℕ → (accepts wel : Bool) → (eight rest : List Bool) → Phase
+judged_on ident a wel eight rest = goes_on ident (judged a wel (named (number eight))) rest
+
 -- the sample of the output side: the status byte as the journal has it, or the cell that is being read; not yet while
 -- the fall for the byte's first bit is to come
 abbrev pub SampleOk : Shape → List ℕ → (due : Bool) → Phase → (sample sampled : ℕ) → Type 0
@@ -46,9 +50,9 @@ pub data Fits (p : Shape) (cells : List ℕ) (es : List Entry) : (s c held : Boo
       Fits p cells es false c held bits unread last sampled (Instructing (length bits) (number bits)) (record { held = held; shown = last; sample = sampled })
   old : {c held : Bool} {last : Level} {sampled : ℕ} (eight rest : List Bool) (a wel : Bool) (sample : ℕ) → length eight ≡ 8 →
       (a ≡ true → accepted (cycle_runs es) (named (number eight)) ≡ true) →
-      SampleOk p cells (c && not held) (goes_on p.ident (judged a wel (named (number eight))) rest) sample sampled →
+      SampleOk p cells (c && not held) (judged_on p.ident a wel eight rest) sample sampled →
       Fits p cells es false c held (eight ++ rest) (noted a wel) last sampled
-      (goes_on p.ident (judged a wel (named (number eight))) rest) (record { held = held; shown = last; sample = sample })
+      (judged_on p.ident a wel eight rest) (record { held = held; shown = last; sample = sample })
 
 abbrev pub jr : (s c d w h held : Bool) → List Bool → Noted → Level → ℕ → List Entry → Journal
 jr s c d w h held bits nt last sampled es =
@@ -102,6 +106,9 @@ late_judged true wel i = refl
 
 pub late_old : (ident : ℕ) (a wel : Bool) (i : Instruction) (rest : List Bool) → late (goes_on ident (judged a wel i) rest) ≡ true
 late_old ident a wel i rest = late_goes ident rest (judged a wel i) (late_judged a wel i)
+
+pub old_off : (ident : ℕ) (a wel : Bool) (eight rest : List Bool) → is_off (judged_on ident a wel eight rest) ≡ false
+old_off ident a wel eight rest = late_off _ (late_old ident a wel (named (number eight)) rest)
 
 -- after the eighth bit the cycle and WEL of the moment do not matter to a latch
 pub latched_late : (ident : ℕ) (runs wel d : Bool) (ph : Phase) → late ph ≡ true → latched ident runs wel d ph ≡ latched ident false false d ph

@@ -17,7 +17,7 @@ use Rattle.laws.specs.Journal.{Journal, blank, enabled, cell, noted_call, journa
 use Rattle.laws.specs.Journal as note
 use Rattle.laws.specs.Laws as law
 use Rattle.laws.specs.Laws.{Action, send, call_of, answers, as_number, first_of, journal_says, journal_answers, chip_after, Telling, tells_more, journal_tells, told_first, journal_capture, AnswersStand, CapturesStand, Cells, CellsStand, CopiesStand, journal_copy, UnfitStand, RefusedEventStands, ahead_of, RefusedCapture, RefusedCaptureStands, AtRest, Alike, Agree, Sameness, SamenessStands}
-use Rattle.laws.proofs.Keeps.{Tracks, tracks, resting, young, old, late_off, late_old}
+use Rattle.laws.proofs.Keeps.{Tracks, tracks, resting, young, old, old_off}
 use Rattle.laws.proofs.Sound.{SoundList, byte_by}
 use Rattle.laws.proofs.Plain.{fit_says}
 use Rattle.laws.proofs.Tell.{tells, fit_length}
@@ -149,7 +149,7 @@ rest_shift : {p : Shape} {birth : List ℕ} {j : Journal} {v : View} → Tracks 
 rest_shift (tracks resting m) e = refl
 rest_shift (tracks (young lt) m) e = cc
 rest_shift {p} (tracks (old eight rest a wel sample e8 ok so) m) e =
-    let q = rw e at (late_off _ (late_old p.ident a wel (named (note.number eight)) rest)) in cc
+    let q = rw e at (old_off p.ident a wel eight rest) in cc
 
 -- the bytes of a chip born over a row of bytes
 cells_bytes : (p : Shape) (birth : List ℕ) → Bytes birth → (j : Journal) (v : View) → Stands p birth j v → Bytes v.cells

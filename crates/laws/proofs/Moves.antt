@@ -24,7 +24,7 @@ use Rattle.laws.specs.Journal as note
 use Rattle.laws.specs.Journal.{Journal, Noted, unread, noted, Entry, wren_done, wrdi_done, cycle_end, wrote, if_so, enabled, cycle_runs, put_at, byte_of, number, noting, lists, closes, notes, puts_out, samples}
 use Rattle.laws.proofs.Bits.{goes_on, goes_on_push, pushed_number, entry, stretch_lists, stretch_ignored}
 use Rattle.laws.proofs.Outputs.{Shifts, sees, outs, ignores, status}
-use Rattle.laws.proofs.Keeps.{Mem, SampleOk, Fits, resting, young, old, Tracks, tracks, jr, vw, late_off, late_old, latched_late, sample_latched, calm, only_rdsr}
+use Rattle.laws.proofs.Keeps.{Mem, SampleOk, Fits, resting, young, old, Tracks, tracks, jr, vw, judged_on, old_off, late_old, latched_late, sample_latched, calm, only_rdsr}
 
 -- ---- a write put into the cells
 
@@ -62,7 +62,7 @@ pub off_is : {p : Shape} {cells : List ℕ} {es : List Entry} {s c held : Bool} 
     Fits p cells es s c held bits nt last sampled ph sh → is_off ph ≡ s
 off_is resting = refl
 off_is (young lt) = refl
-off_is {p} (old eight rest a wel sample e8 ok so) = late_off _ (late_old p.ident a wel (named (number eight)) rest)
+off_is {p} (old eight rest a wel sample e8 ok so) = old_off p.ident a wel eight rest
 
 module _ (p : Shape) (birth : List ℕ) (es : List Entry) (cy : Cycle) (cells : List ℕ) (m : Mem p birth es cy cells) where
   -- ---- a rise of C
@@ -91,9 +91,9 @@ module _ (p : Shape) (birth : List ℕ) (es : List Entry) (cy : Cycle) (cells : 
       judged_sample true i = tt
 
   old_latch : (d : Bool) (eight rest : List Bool) (a wel : Bool) (last : Level) (sample sampled : ℕ) → length eight ≡ 8 → (a ≡ true → accepted (cycle_runs es) (named (number eight)) ≡ true) →
-      SampleOk p cells false (goes_on p.ident (judged a wel (named (number eight))) rest) sample sampled →
+      SampleOk p cells false (judged_on p.ident a wel eight rest) sample sampled →
       Fits p cells es false true false ((eight ++ rest) ++ (d ∷ [])) (notes es ((eight ++ rest) ++ (d ∷ [])) (noted a wel)) last sampled
-      (latched p.ident (running cy) (enabled es) d (goes_on p.ident (judged a wel (named (number eight))) rest)) (record { held = false; shown = last; sample = sample })
+      (latched p.ident (running cy) (enabled es) d (judged_on p.ident a wel eight rest)) (record { held = false; shown = last; sample = sample })
   old_latch d eight rest a wel last sample sampled e8 ok so =
       let i : Instruction = named (number eight) in
       let ph : Phase = goes_on p.ident (judged a wel i) rest in
@@ -110,11 +110,11 @@ module _ (p : Shape) (birth : List ℕ) (es : List Entry) (cy : Cycle) (cells : 
   -- a stretch goes on with a new output side
   fell : (d w h : Bool) (eight rest : List Bool) (a wel : Bool) (last : Level) (sampled : ℕ) (v : View) → length eight ≡ 8 → (a ≡ true → accepted (cycle_runs es) (named (number eight)) ≡ true) →
       v.cells ≡ cells →
-      Shifts p v (rule.held_now (goes_on p.ident (judged a wel (named (number eight))) rest) h) (goes_on p.ident (judged a wel (named (number eight))) rest) last sampled →
+      Shifts p v (rule.held_now (judged_on p.ident a wel eight rest) h) (judged_on p.ident a wel eight rest) last sampled →
       Tracks p birth (jr false false d w h (not h) (eight ++ rest) (noted a wel) last sampled es)
-      (vw false d w h (enabled es) cy (goes_on p.ident (judged a wel (named (number eight))) rest) (shifted p v (rule.held_now (goes_on p.ident (judged a wel (named (number eight))) rest) h) (goes_on p.ident (judged a wel (named (number eight))) rest)) cells)
+      (vw false d w h (enabled es) cy (judged_on p.ident a wel eight rest) (shifted p v (rule.held_now (judged_on p.ident a wel eight rest) h) (judged_on p.ident a wel eight rest)) cells)
   fell d w h eight rest a wel last sampled v e8 ok ce s =
-      rw (s.shift_is, late_off _ (late_old p.ident a wel (named (number eight)) rest)) (tracks (old eight rest a wel s.sample e8 ok (rw ce at s.sample_is)) m)
+      rw (s.shift_is, old_off p.ident a wel eight rest) (tracks (old eight rest a wel s.sample e8 ok (rw ce at s.sample_is)) m)
 
   -- ---- a rise of S
 
@@ -172,7 +172,7 @@ module _ (p : Shape) (birth : List ℕ) (es : List Entry) (cy : Cycle) (cells : 
 
   -- the two lists are one
   lists_same : Lawful p → (w : Bool) (a wel : Bool) (eight rest : List Bool) → length eight ≡ 8 →
-      entry p w st lk (goes_on p.ident (judged a wel (named (number eight))) rest) ≡ closes p w (byte_of birth (status_at p) false es) (byte_of birth (lock_at p) false es) (noted a wel) (eight ++ rest)
+      entry p w st lk (judged_on p.ident a wel eight rest) ≡ closes p w (byte_of birth (status_at p) false es) (byte_of birth (lock_at p) false es) (noted a wel) (eight ++ rest)
   lists_same law w false wel eight rest e8 = stretch_ignored p w st lk rest
   lists_same law w true wel eight rest e8 =
       rw (← m.now_is (status_at p) (omega arith), ← m.now_is (lock_at p) (omega arith), take_at eight rest 8 e8) (stretch_lists p law w st lk wel (named (number eight)) eight rest e8)
@@ -199,7 +199,7 @@ module _ (p : Shape) (law : Lawful p) (birth : List ℕ) where
   hold_keeps l _ _ (tracks {c = true} resting m) n = tracks resting m
   hold_keeps l _ _ (tracks {c = false} (young lt) m) n = tracks (young lt) m
   hold_keeps l _ _ (tracks {c = false} (old eight rest a wel sample e8 ok so) m) n =
-      rw (late_off _ (late_old p.ident a wel (named (number eight)) rest)) (tracks (old eight rest a wel sample e8 ok so) m)
+      rw (old_off p.ident a wel eight rest) (tracks (old eight rest a wel sample e8 ok so) m)
   hold_keeps l _ _ (tracks f m) n = tracks f m
 
   rise_keeps : Keeps p birth (Clock true)
@@ -218,7 +218,7 @@ module _ (p : Shape) (law : Lawful p) (birth : List ℕ) where
   fall_keeps _ _ (tracks {held = true} (young lt) m) n = tracks (young lt) m
   fall_keeps _ _ (tracks {held = false} (young lt) m) n = tracks (young lt) m
   fall_keeps _ _ (tracks {held = true} (old eight rest a wel sample e8 ok so) m) n =
-      rw (late_off _ (late_old p.ident a wel (named (number eight)) rest)) (tracks (old eight rest a wel sample e8 ok so) m)
+      rw (old_off p.ident a wel eight rest) (tracks (old eight rest a wel sample e8 ok so) m)
   fall_keeps _ _ (tracks {d = d} {w = w} {h = h} {held = false} {es = es} {cy = cy} {cells = cells} (old {last = last} {sampled = sampled} eight rest false wel sample e8 ok so) m) n =
       fell p birth es cy cells m d w h eight rest false wel last sampled (sees p law birth es cy cells m d w h (goes_on p.ident Ignored rest) last sample) e8 ok refl
       (ignores p law birth es cy cells m d w h wel (rule.held_now (goes_on p.ident Ignored rest) h) (goes_on p.ident Ignored rest) last sample sampled eight rest e8)
