@@ -8,7 +8,7 @@ use Rattle.backing.specs.declared.refusal.Refusal.{Refusal}
 use Rattle.backing.specs.declared.fault.Fault.{Fault}
 use Rattle.rules.specs.declared.state.Phase.TheVariants.{Deselected}
 use Rattle.rules.specs.Shape.{Shape, Lawful, cell_count}
-use Rattle.rules.specs.Tables.{named, unfit, refused_capture, refused_copy}
+use Rattle.rules.specs.Tables.{unfit, refused_capture, refused_copy}
 use Rattle.rules.specs.Rules as rule
 use Rattle.rules.specs.Rules.{View, Done, taken, refused, step, born, is_off, at_rest}
 use Rattle.rules.specs.Calls as call

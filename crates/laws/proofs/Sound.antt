@@ -52,16 +52,13 @@ abbrev Small : List (Option ℕ) → Type 0
 Small ps = (k y : ℕ) → get_or ps k None ≡ Some y → y < 256
 
 set_small : (ps : List (Option ℕ)) (at b : ℕ) → b < 256 → Small ps → Small (set ps at (Some b))
-set_small [] at b h s k y e = cc
 set_small (o ∷ ps) zero b h s zero y e = let q : b ≡ y = cc in omega arith
-set_small (o ∷ ps) zero b h s (suc k) y e = s (suc k) y e
-set_small (o ∷ ps) (suc at) b h s zero y e = s zero y e
 set_small (o ∷ ps) (suc at) b h s (suc k) y e = set_small ps at b h (λ j z q. s (suc j) z q) k y e
+set_small ps at b h s k y e = s k y e
 
 empty_small : (n : ℕ) → Small (replicate n None)
-empty_small zero k y e = cc
-empty_small (suc n) zero y e = cc
 empty_small (suc n) (suc k) y e = empty_small n k y e
+empty_small n k y e = cc
 
 placed_small : (bs : List Bool) (ps : List (Option ℕ)) (at : ℕ) → Small ps → Small (placed ps at (bytes_in bs))
 placed_small (a ∷ b ∷ c ∷ d ∷ e ∷ f ∷ g ∷ h ∷ bs) ps at s =
@@ -96,14 +93,10 @@ one_put place v i y e =
     let f = rw z at q.1 in
     (omega arith, cc)
 
-kept_kept : (b : ℕ) → b < 256 → (kept b < 256) × (kept (kept b) ≡ kept b)
-kept_kept b h = (omega arith, omega arith)
-
 status_sound : (p : Shape) (b : ℕ) → b < 256 → SoundEntry p (wrote (status_at p) (Some (kept b) ∷ []))
 status_sound p b h i y e =
     let q = one_put (status_at p) (kept b) i y e in
-    let f = kept_kept b h in
-    rw (← q.1) (record { byte = f.0; status = λ _. f.1; lock = λ z. absurd (omega arith) })
+    rw (← q.1) (record { byte = omega arith; status = λ _. omega arith; lock = λ z. absurd (omega arith) })
 
 lock_sound : (p : Shape) → SoundEntry p (wrote (lock_at p) (Some 1 ∷ []))
 lock_sound p i y e =
