@@ -40,7 +40,7 @@ pub goes_on_push : (ident : ℕ) (ph : Phase) (bs : List Bool) (b : Bool) → go
 goes_on_push ident ph [] b = refl
 goes_on_push ident ph (x ∷ bs) b = goes_on_push ident (latched ident false false x ph) bs b
 
-pub number_push : (acc : ℕ) (bs : List Bool) (b : Bool) → number_after acc (bs ++ (b ∷ [])) ≡ 2 * number_after acc bs + to_number b
+number_push : (acc : ℕ) (bs : List Bool) (b : Bool) → number_after acc (bs ++ (b ∷ [])) ≡ 2 * number_after acc bs + to_number b
 number_push acc [] b = refl
 number_push acc (x ∷ bs) b = number_push (2 * acc + to_number x) bs b
 
@@ -55,7 +55,7 @@ double acc n x le =
     let m : (2 * acc + x + 1) * n ≤ (2 * (acc + 1)) * n = mul-le (2 * acc + x + 1) n (2 * (acc + 1)) n (omega arith) (omega arith) in
     omega arith
 
-pub number_after_lt : (acc : ℕ) (bs : List Bool) → number_after acc bs < (acc + 1) * 2 ^ length bs
+number_after_lt : (acc : ℕ) (bs : List Bool) → number_after acc bs < (acc + 1) * 2 ^ length bs
 number_after_lt acc [] = omega arith
 number_after_lt acc (b ∷ bs) =
     let i : number_after (2 * acc + to_number b) bs < (2 * acc + to_number b + 1) * 2 ^ length bs = number_after_lt (2 * acc + to_number b) bs in

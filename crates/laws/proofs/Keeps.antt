@@ -69,30 +69,26 @@ pub data Tracks (p : Shape) (birth : List ℕ) : Journal → View → Type 0 whe
 
 -- ---- a stretch stays one, and is judged once
 
-abbrev pub late : Phase → Bool
+abbrev late : Phase → Bool
 late Deselected = false
 late (Instructing n v) = false
 late ph = true
 
-pub late_off : (ph : Phase) → late ph ≡ true → is_off ph ≡ false
+late_off : (ph : Phase) → late ph ≡ true → is_off ph ≡ false
 late_off Deselected e = cc
 late_off ph e = refl
 
 late_aimed : (ident : ℕ) (a : Access) (wel : Bool) (v : ℕ) → late (aimed ident a wel v) ≡ true
-late_aimed ident access.Read wel v = refl
-late_aimed ident access.Write wel v = refl
 late_aimed ident access.ReadIdent wel v = pick (λ ph. late ph ≡ true) (a10 v) _ _ refl refl
-late_aimed ident access.WriteIdent wel v =
-    pick (λ ph. late ph ≡ true) (a10 v) _ _ refl refl
-late_aimed ident access.ReadUnique wel v = refl
+late_aimed ident access.WriteIdent wel v = pick (λ ph. late ph ≡ true) (a10 v) _ _ refl refl
+late_aimed ident a wel v = refl
 
 late_on : (ident : ℕ) (d : Bool) (ph : Phase) → late ph ≡ true → late (latched ident false false d ph) ≡ true
 late_on ident d Deselected e = e
 late_on ident d (Instructing n v) e = cc
 late_on ident d (Address a wel n v) e =
     pick (λ ph. late ph ≡ true) (ltb n 23) _ _ refl (late_aimed ident a wel (rule.pushed_address v d))
-late_on ident d (Output r a k) e =
-    pick (λ ph. late ph ≡ true) (ltb k 7) _ _ refl refl
+late_on ident d (Output r a k) e = pick (λ ph. late ph ≡ true) (ltb k 7) _ _ refl refl
 late_on ident d ph e = refl
 
 late_goes : (ident : ℕ) (bs : List Bool) (ph : Phase) → late ph ≡ true → late (goes_on ident ph bs) ≡ true
@@ -117,13 +113,10 @@ latched_late ident runs wel d ph e = refl
 
 -- the sample through a latch
 sample_aimed : (p : Shape) (cells : List ℕ) (ident : ℕ) (a : Access) (wel : Bool) (v sample sampled : ℕ) → SampleOk p cells true (aimed ident a wel v) sample sampled
-sample_aimed p cells ident access.Read wel v sample sampled = λ e. cc
 sample_aimed p cells ident access.Write wel v sample sampled = tt
-sample_aimed p cells ident access.ReadIdent wel v sample sampled =
-    pick (λ ph. SampleOk p cells true ph sample sampled) (a10 v) _ _ (λ e. cc) (λ e. cc)
-sample_aimed p cells ident access.WriteIdent wel v sample sampled =
-    pick (λ ph. SampleOk p cells true ph sample sampled) (a10 v) _ _ tt tt
-sample_aimed p cells ident access.ReadUnique wel v sample sampled = λ e. cc
+sample_aimed p cells ident access.ReadIdent wel v sample sampled = pick (λ ph. SampleOk p cells true ph sample sampled) (a10 v) _ _ (λ e. cc) (λ e. cc)
+sample_aimed p cells ident access.WriteIdent wel v sample sampled = pick (λ ph. SampleOk p cells true ph sample sampled) (a10 v) _ _ tt tt
+sample_aimed p cells ident a wel v sample sampled = λ e. cc
 
 pub sample_latched : (p : Shape) (cells : List ℕ) (ident : ℕ) (d : Bool) (ph : Phase) (sample sampled : ℕ) → late ph ≡ true → SampleOk p cells false ph sample sampled → SampleOk p cells true (latched ident false false d ph) sample sampled
 sample_latched p cells ident d (Instructing n v) sample sampled e h = cc

@@ -37,7 +37,7 @@ length_over : (xs : List ℕ) (ps : List (Option ℕ)) → length (over xs ps) �
 length_over (x ∷ xs) (o ∷ ps) = ap suc (length_over xs ps)
 length_over xs ps = refl
 
-pub length_laid : (xs : List ℕ) (n : ℕ) (ps : List (Option ℕ)) → length (laid xs n ps) ≡ length xs
+length_laid : (xs : List ℕ) (n : ℕ) (ps : List (Option ℕ)) → length (laid xs n ps) ≡ length xs
 length_laid [] zero ps = refl
 length_laid [] (suc n) ps = refl
 length_laid (x ∷ xs) zero ps = length_over (x ∷ xs) ps

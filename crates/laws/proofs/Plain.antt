@@ -60,7 +60,7 @@ does_cells p v (Ok e) c = unless_cells v (moved p v e) (refuses v e) (moved_cell
 does_cells p v (Err r) c = refl
 
 -- an event that ends no cycle leaves the cells
-pub step_cells : (p : Shape) (v : View) (k l : ℕ) → T (calm (decoded k l)) → (after v (step p v k l)).cells ≡ v.cells
+step_cells : (p : Shape) (v : View) (k l : ℕ) → T (calm (decoded k l)) → (after v (step p v k l)).cells ≡ v.cells
 step_cells p v k l c = does_cells p v (decoded k l) c
 
 says_is : (v : View) (d : Done) → (one_event v d).says ≡ as_number (answer d)
@@ -75,7 +75,7 @@ view_is v (refused r) = refl
 pub fit_says : (p : Shape) (v : View) (k l : ℕ) → unfit p v.cells ≡ None → (outcome p v (event k l)).says ≡ as_number (answer (step p v k l))
 fit_says p v k l f = rw f (says_is v (step p v k l))
 
-pub fit_view : (p : Shape) (v : View) (k l : ℕ) → unfit p v.cells ≡ None → called p v (event k l) ≡ after v (step p v k l)
+fit_view : (p : Shape) (v : View) (k l : ℕ) → unfit p v.cells ≡ None → called p v (event k l) ≡ after v (step p v k l)
 fit_view p v k l f = rw (f, called) (view_is v (step p v k l))
 
 -- ---- lists
@@ -93,7 +93,7 @@ T_parts : (a b : Bool) → T (a && b) → T a × T b
 T_parts true b t = (tt, t)
 T_parts false b t = absurd t
 
-pub plainly : (p : Shape) (xs : List Action) (v : View) → T (all_calm xs) → unfit p v.cells ≡ None → answers p v xs ≡ plain p v xs
+plainly : (p : Shape) (xs : List Action) (v : View) → T (all_calm xs) → unfit p v.cells ≡ None → answers p v xs ≡ plain p v xs
 plainly p [] v c f = refl
 plainly p (send k l ∷ more) v c f =
     let now : T (calm (decoded k l)) × T (all_calm more) = T_parts (calm (decoded k l)) (all_calm more) c in

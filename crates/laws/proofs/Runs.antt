@@ -130,7 +130,7 @@ module _ (p : Shape) (r : Refusal) where
   unfit_history v e [] = refl
   unfit_history v e (x ∷ h) = ap (λ u. after_calls p u h) (unfit_call v e x).0 ∙ unfit_history v e h
 
-  pub unfit_noted : (birth : List ℕ) → unfit p (born_cells p birth) ≡ Some r → (j : Journal) (x : Call) → noted_call p birth j x ≡ j
+  unfit_noted : (birth : List ℕ) → unfit p (born_cells p birth) ≡ Some r → (j : Journal) (x : Call) → noted_call p birth j x ≡ j
   unfit_noted birth e j x = rw e
 
   pub unfit_journal : (birth : List ℕ) → unfit p (born_cells p birth) ≡ Some r → (j : Journal) (h : List Call) → journal_of p birth j h ≡ j

@@ -11,7 +11,7 @@ use Rattle.laws.proofs.Keeps.{resting, Tracks, tracks}
 use Rattle.laws.proofs.Moves.{off_is, keeps}
 
 -- Q is the journal's
-pub seen_is : {p : Shape} {birth : List ℕ} {j : Journal} {v : View} → Tracks p birth j v → seen v.shift ≡ q_of j
+seen_is : {p : Shape} {birth : List ℕ} {j : Journal} {v : View} → Tracks p birth j v → seen v.shift ≡ q_of j
 seen_is (tracks resting m) = refl
 seen_is (tracks {held = true} f m) = refl
 seen_is (tracks f m) = refl

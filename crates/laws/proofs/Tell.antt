@@ -24,14 +24,14 @@ use Rattle.laws.proofs.Plain.{calm, all_calm, plain, PlainlyAlike, alike_plainly
 
 -- ---- views, and lists of events
 
-abbrev pub levels : Bool → Bool → Bool → Bool → Pins
+abbrev levels : Bool → Bool → Bool → Bool → Pins
 levels c d w h = record { clock = c; input = d; protect = w; hold = h }
 
-abbrev pub rest : Bool → Bool → Bool → Bool → Bool → List ℕ → View
+abbrev rest : Bool → Bool → Bool → Bool → Bool → List ℕ → View
 rest c d w h wel cells = record { pins = levels c d w h; wel = wel; cycle = Idle; stretch = Deselected; shift = at_rest; cells = cells }
 
 -- C low, HOLD high, D at d; bit k of byte b has been shifted out
-abbrev pub putting : (d w wel : Bool) (cells : List ℕ) (b k : ℕ) → Phase → View
+abbrev putting : (d w wel : Bool) (cells : List ℕ) (b k : ℕ) → Phase → View
 putting d w wel cells b k ph =
     record {
       pins = levels false d w true;
@@ -42,37 +42,37 @@ putting d w wel cells b k ph =
       cells = cells;
     }
 
-abbrev pub go : Shape → View → List Action → View
+abbrev go : Shape → View → List Action → View
 go p v [] = v
 go p v (send k l ∷ more) = go p (after v (step p v k l)) more
 
 -- bits of a byte, the highest first, in front of more
-abbrev pub bits_on : ℕ → ℕ → List ℕ → List ℕ
+abbrev bits_on : ℕ → ℕ → List ℕ → List ℕ
 bits_on zero b more = more
 bits_on (suc k) b more = (b / 2 ^ k % 2) ∷ bits_on k b more
 
-abbrev pub bits_of : List ℕ → List ℕ
+abbrev bits_of : List ℕ → List ℕ
 bits_of [] = []
 bits_of (b ∷ bs) = bits_on 8 b (bits_of bs)
 
 -- one bit in: D, a rise of C, a fall of C
-abbrev pub clocked : List ℕ → List Action
+abbrev clocked : List ℕ → List Action
 clocked [] = []
 clocked (b ∷ bs) = send 2 b ∷ (send 1 1 ∷ (send 1 0 ∷ clocked bs))
 
 -- a command of these bytes, from rest: C low, HOLD high, S low, the bits
-abbrev pub opens : List ℕ → List Action
+abbrev opens : List ℕ → List Action
 opens bytes = send 1 0 ∷ (send 4 1 ∷ (send 0 0 ∷ clocked (bits_of bytes)))
 
-abbrev pub clk : ℕ → List Action
+abbrev clk : ℕ → List Action
 clk zero = []
 clk (suc n) = send 1 1 ∷ (send 1 0 ∷ clk n)
 
-abbrev pub rounds : ℕ → List Action
+abbrev rounds : ℕ → List Action
 rounds zero = []
 rounds (suc n) = rounds n ++ clk 8
 
-abbrev pub said : Shape → View → ℕ → ℕ → Result ℕ Fault
+abbrev said : Shape → View → ℕ → ℕ → Result ℕ Fault
 said p v k l = as_number (answer (step p v k l))
 
 three : (P : Bool → Bool → Bool → Type 0) → P true true true → P true true false → P true false true → P true false false → P false true true → P false true false → P false false true → P false false false → (a b c : Bool) → P a b c
@@ -86,7 +86,7 @@ three P a b c d e f g h false false true = g
 three P a b c d e f g h false false false = h
 
 -- byte at address a of a region is being read, bit k is out
-abbrev pub reading : (p : Shape) (w wel : Bool) (cells : List ℕ) (r : Region) (a k : ℕ) → View
+abbrev reading : (p : Shape) (w wel : Bool) (cells : List ℕ) (r : Region) (a k : ℕ) → View
 reading p w wel cells r a k = putting false w wel cells (get_or cells (place p r a) 0) k (Output r a k)
 
 go_append : (p : Shape) (v : View) (xs ys : List Action) → go p v (xs ++ ys) ≡ go p (go p v xs) ys
@@ -100,7 +100,7 @@ last_said p (send a b ∷ es) k l u v h = last_said p es k l (after u (step p u 
 
 -- ---- lists of bytes that end no cycle
 
-abbrev pub Fine : List Action → Type 0
+abbrev Fine : List Action → Type 0
 Fine xs = T (of_bytes xs) × T (all_calm xs)
 
 keep : (a x y : Bool) → T (a && x) → (T x → T y) → T (a && y)
@@ -127,7 +127,7 @@ fine_rounds zero = (tt, tt)
 fine_rounds (suc n) = fine_append (rounds n) (clk 8) (fine_rounds n) (tt, tt)
 
 -- one event after others, by both
-pub says_alike : (p : Shape) (u v : View) → PlainlyAlike p u v → (es : List Action) → Fine es → said p (go p u es) 1 1 ≡ said p (go p v es) 1 1
+says_alike : (p : Shape) (u v : View) → PlainlyAlike p u v → (es : List Action) → Fine es → said p (go p u es) 1 1 ≡ said p (go p v es) 1 1
 says_alike p u v al es f =
     let g : Fine (es ++ (send 1 1 ∷ [])) = fine_append es (send 1 1 ∷ []) f (tt, tt) in
     last_said p es 1 1 u v (al (es ++ (send 1 1 ∷ [])) g.0 g.1)
@@ -210,10 +210,10 @@ module _ (p : Shape) (w wel wel' : Bool) (cells cells' : List ℕ) (r : Region) 
 -- ---- commands
 
 -- RDSR: bit k of the status byte is out
-abbrev pub status_now : (p : Shape) (wel : Bool) (cells : List ℕ) → ℕ
+abbrev status_now : (p : Shape) (wel : Bool) (cells : List ℕ) → ℕ
 status_now p wel cells = status_byte (get_or cells (status_at p) 0) wel false
 
-abbrev pub asking : (p : Shape) (w wel : Bool) (cells : List ℕ) (k : ℕ) → View
+abbrev asking : (p : Shape) (w wel : Bool) (cells : List ℕ) (k : ℕ) → View
 asking p w wel cells k = putting true w wel cells (status_now p wel cells) k (Status k)
 
 module _ (p : Shape) (w wel : Bool) (cells : List ℕ) where
@@ -331,7 +331,7 @@ first_turn n i h = let e : 0 + i ≡ i = omega arith in rw e (mod-eq_of_lt h)
 
 module _ (p : Shape) (law : Lawful p) (c d w h wel wel' : Bool) (cells cells' : List ℕ)
     (ok : Bytes cells) (ok' : Bytes cells') (al : PlainlyAlike p (rest c d w h wel cells) (rest c d w h wel' cells')) where
-  abbrev pub At : ℕ → Type 0
+  abbrev At : ℕ → Type 0
   At i = get_or cells i 0 ≡ get_or cells' i 0
 
   region_alike : (r : Region) (a : ℕ) (cmd : List ℕ) → ((wl : Bool) (cs : List ℕ) → go p (rest c d w h wl cs) (opens cmd) ≡ reading p w wl cs r a 0) → Fine (opens cmd) → (i : ℕ) → a + i < 4294967296 → At (place p r (a + i))
