@@ -67,7 +67,7 @@ says_is : (v : View) (d : Done) → (one_event v d).says ≡ as_number (answer d
 says_is v (taken u) = refl
 says_is v (refused r) = refl
 
-view_is : (v : View) (d : Done) → (one_event v d).view ≡ after v d
+pub view_is : (v : View) (d : Done) → (one_event v d).view ≡ after v d
 view_is v (taken u) = refl
 view_is v (refused r) = refl
 

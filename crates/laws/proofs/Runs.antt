@@ -1,5 +1,5 @@
 -- After every history the journal keeps what the chip shows.
-use Rattle.std.proofs.Common.{◌≡◌, ℕ, ◌+◌, ◌<◌, ◌≤◌, false, List, [], ◌∷◌, length, get_or, take, Some, None, Ok, Err, Option, Result, refl, ap, ◌∙◌, arith, length-take}
+use Rattle.std.proofs.Common.{◌≡◌, ℕ, ◌+◌, ◌<◌, ◌≤◌, false, List, [], ◌∷◌, length, get_or, take, Some, None, Ok, Err, Option, Result, refl, arith, length-take}
 use Rattle.std.proofs.lemmas.Bool.{eq-eqb, le-ltb}
 use Rattle.std.proofs.lemmas.List.{get_or-take}
 use Rattle.backing.specs.Faults.{raised}
@@ -14,6 +14,7 @@ use Rattle.rules.specs.Calls.{Call, event, capture, copy, Outcome, records, outc
 use Rattle.laws.specs.Journal as note
 use Rattle.laws.specs.Journal.{Journal, blank, Noting, took, turned, journal_step, journal_records, kept_by, noted_call, journal_of}
 use Rattle.laws.proofs.Keeps.{resting, Tracks, tracks}
+use Rattle.laws.proofs.Plain.{view_is}
 use Rattle.laws.proofs.Steps.{together}
 use Rattle.laws.proofs.Sound.{SoundList, byte_by, noting_sound}
 use Rattle.laws.proofs.Tell.{fit_length, fit_status, fit_lock}
@@ -96,11 +97,7 @@ module _ (p : Shape) (law : Lawful p) (birth : List ℕ) where
   -- ---- a call on a fit chip
 
   fit_stands : (x : Call) (j : Journal) (v : View) → Stands p birth j v → Stands p birth (note.fit_noted p birth j x) (call.fit_call p v x).view
-  fit_stands (event k l) j v s = by (step p v k l) (event_stands j v s k l)
-    where
-      by : (d : Done) → Stands p birth (note.after_noting j (journal_step p birth j k l)) (rule.after v d) → Stands p birth (note.after_noting j (journal_step p birth j k l)) (call.one_event v d).view
-      by (taken u) t = t
-      by (refused r) t = t
+  fit_stands (event k l) j v s = rw (view_is v (step p v k l)) (event_stands j v s k l)
   fit_stands (capture bytes room) j v s = by (refused_capture bytes room)
     where
       by : (o : Option Refusal) → Stands p birth (kept_by o j (journal_records p birth j bytes)) (call.unless o v (records p v 0 bytes)).view
@@ -128,11 +125,8 @@ module _ (p : Shape) (r : Refusal) where
 
   pub unfit_history : (v : View) → unfit p v.cells ≡ Some r → (h : List Call) → after_calls p v h ≡ v
   unfit_history v e [] = refl
-  unfit_history v e (x ∷ h) = ap (λ u. after_calls p u h) (unfit_call v e x).0 ∙ unfit_history v e h
-
-  unfit_noted : (birth : List ℕ) → unfit p (born_cells p birth) ≡ Some r → (j : Journal) (x : Call) → noted_call p birth j x ≡ j
-  unfit_noted birth e j x = rw e
+  unfit_history v e (x ∷ h) = rw (unfit_call v e x).0 (unfit_history v e h)
 
   pub unfit_journal : (birth : List ℕ) → unfit p (born_cells p birth) ≡ Some r → (j : Journal) (h : List Call) → journal_of p birth j h ≡ j
   unfit_journal birth e j [] = refl
-  unfit_journal birth e j (x ∷ h) = ap (λ i. journal_of p birth i h) (unfit_noted birth e j x) ∙ unfit_journal birth e j h
+  unfit_journal birth e j (x ∷ h) = rw (e, noted_call) (unfit_journal birth e j h)
