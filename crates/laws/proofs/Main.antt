@@ -21,7 +21,7 @@ use Rattle.laws.proofs.Keeps.{Tracks, tracks, resting, young, old, old_off}
 use Rattle.laws.proofs.Sound.{SoundList, byte_by}
 use Rattle.laws.proofs.Plain.{fit_says}
 use Rattle.laws.proofs.Tell.{tells, fit_length}
-use Rattle.laws.proofs.Runs.{Stands, stays_fit, birth_stands, event_stands, event_alike, call_stands, history_stands, unfit_call, unfit_history, unfit_journal}
+use Rattle.laws.proofs.Runs.{Stands, follow, Told, recorded, stays_fit, birth_stands, event_alike, call_stands, history_stands, unfit_call, unfit_history, unfit_journal}
 
 -- a history on a fit birth row
 stands : (p : Shape) → Lawful p → (birth : List ℕ) → unfit p (take (cell_count p) birth) ≡ None → (h : List Call) → Stands p birth (law.journal_after p birth h) (chip_after p birth h)
@@ -97,31 +97,11 @@ cells_stand p lw birth h = by (unfit p (take (cell_count p) birth)) refl
 
 -- ---- captures
 
-abbrev Told : Outcome → Telling → Type 0
-Told o t = (o.levels ≡ t.levels) × (o.says ≡ t.says)
-
-records_told : (p : Shape) → Lawful p → (birth bytes : List ℕ) (i : ℕ) (j : Journal) (v : View) → Stands p birth j v → Told (records p v i bytes) (journal_tells p birth j i bytes)
-records_told p lw birth [] i j v s = (refl, refl)
-records_told p lw birth (k ∷ []) i j v s = (refl, refl)
-records_told p lw birth (k ∷ l ∷ more) i j v s =
-    by (step p v k l) (note.journal_step p birth j k l) (event_alike p lw birth j v s k l) (event_stands p lw birth j v s k l) (λ u x t. records_told p lw birth more (i + 1) x u t)
-  where
-    by : (d : Done) (n : note.Noting) → rule.answer d ≡ note.journal_answer n → Stands p birth (note.after_noting j n) (rule.after v d) →
-        ((u : View) (x : Journal) → Stands p birth x u → Told (records p u (i + 1) more) (journal_tells p birth x (i + 1) more)) →
-        Told (elim d as (λ _. Outcome) [ taken u ↦ call.with_level (rule.seen u.shift) (records p u (i + 1) more) | refused r ↦ record { view = v; levels = []; says = Err (raised r i) } ])
-        (elim n as (λ _. Telling) [ note.took x ↦ tells_more (note.q_of x) (journal_tells p birth x (i + 1) more) | note.turned r ↦ record { levels = []; says = Err (raised r i) } ])
-    by (taken u) (note.took x) e t go =
-        let rest = go u x t in
-        (cc, rest.1)
-    by (taken u) (note.turned r) e t go = cc
-    by (refused r) (note.took x) e t go = cc
-    by (refused r) (note.turned q) e t go = (refl, cc)
-
 told_by : (p : Shape) → Lawful p → (birth : List ℕ) (j : Journal) (v : View) (bytes : List ℕ) (o o' : Option Refusal) → (o ≡ None → Stands p birth j v) →
     Told (call.unless o v (call.unless o' v (records p v 0 bytes))) (told_first o (told_first o' (journal_tells p birth j 0 bytes)))
 told_by p lw birth j v bytes (Some r) o' s = (refl, refl)
 told_by p lw birth j v bytes None (Some r) s = (refl, refl)
-told_by p lw birth j v bytes None None s = records_told p lw birth bytes 0 j v (s refl)
+told_by p lw birth j v bytes None None s = (recorded p lw birth bytes 0 j v (s refl)).1
 
 pub captures_stand : CapturesStand
 captures_stand p lw birth h bytes room =
@@ -208,14 +188,6 @@ sameness_stands p lw birth birth' h h' bs bs' f f' r r' =
     )
 
 -- ---- a refused capture
-
--- the records after a first one that came to d
-abbrev follow : Shape → View → ℕ → Done → List ℕ → Outcome
-follow p v i d more =
-    elim d as (λ _. Outcome) [
-      | taken u ↦ call.with_level (rule.seen u.shift) (records p u (i + 1) more)
-      | refused r ↦ record { view = v; levels = []; says = Err (raised r i) }
-    ]
 
 -- n records, and then a refused one
 record Stops (p : Shape) (v : View) (i : ℕ) (bytes : List ℕ) (e : Fault) : Type 0 where

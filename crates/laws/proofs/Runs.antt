@@ -13,6 +13,7 @@ use Rattle.rules.specs.Calls as call
 use Rattle.rules.specs.Calls.{Call, event, capture, copy, Outcome, records, outcome, called, after_calls}
 use Rattle.laws.specs.Journal as note
 use Rattle.laws.specs.Journal.{Journal, blank, Noting, took, turned, journal_step, journal_records, kept_by, noted_call, journal_of}
+use Rattle.laws.specs.Laws.{Telling, tells_more, journal_tells}
 use Rattle.laws.proofs.Keeps.{resting, Tracks, tracks}
 use Rattle.laws.proofs.Plain.{view_is}
 use Rattle.laws.proofs.Steps.{together}
@@ -61,6 +62,18 @@ birth_stands p birth f =
 
 -- ---- an event
 
+-- the records after a first one that came to d
+abbrev pub follow : Shape → View → ℕ → Done → List ℕ → Outcome
+follow p v i d more =
+    elim d as (λ _. Outcome) [
+      | taken u ↦ call.with_level (seen u.shift) (records p u (i + 1) more)
+      | refused r ↦ record { view = v; levels = []; says = Err (raised r i) }
+    ]
+
+-- what is told is what the journal tells
+abbrev pub Told : Outcome → Telling → Type 0
+Told o t = (o.levels ≡ t.levels) × (o.says ≡ t.says)
+
 module _ (p : Shape) (law : Lawful p) (birth : List ℕ) where
   noted_sound : (j : Journal) (r : Result Event Refusal) → SoundList p j.entries → SoundList p (note.after_noting j (note.notes_event p birth j r)).entries
   noted_sound j (Err r) g = g
@@ -79,20 +92,21 @@ module _ (p : Shape) (law : Lawful p) (birth : List ℕ) where
 
   -- ---- the records of a capture
 
-  recorded : (bytes : List ℕ) (i : ℕ) (j : Journal) (v : View) → Stands p birth j v → Stands p birth (journal_records p birth j bytes) (records p v i bytes).view
-  recorded [] i j v s = s
-  recorded (k ∷ []) i j v s = s
+  pub recorded : (bytes : List ℕ) (i : ℕ) (j : Journal) (v : View) → Stands p birth j v →
+      Stands p birth (journal_records p birth j bytes) (records p v i bytes).view × Told (records p v i bytes) (journal_tells p birth j i bytes)
+  recorded [] i j v s = (s, (refl, refl))
+  recorded (k ∷ []) i j v s = (s, (refl, refl))
   recorded (k ∷ l ∷ more) i j v s =
       by (step p v k l) (journal_step p birth j k l) (event_stands j v s k l) (event_alike j v s k l) (λ x u t. recorded more (i + 1) x u t)
     where
       by : (d : Done) (n : Noting) → Stands p birth (note.after_noting j n) (rule.after v d) → rule.answer d ≡ note.journal_answer n →
-          ((x : Journal) (u : View) → Stands p birth x u → Stands p birth (journal_records p birth x more) (records p u (i + 1) more).view) →
-          Stands p birth (elim n as (λ _. Journal) [ took x ↦ journal_records p birth x more | turned r ↦ j ])
-          (elim d as (λ _. Outcome) [ taken u ↦ call.with_level (seen u.shift) (records p u (i + 1) more) | refused r ↦ record { view = v; levels = []; says = Err (raised r i) } ]).view
-      by (taken u) (took x) t e go = go x u t
+          ((x : Journal) (u : View) → Stands p birth x u → Stands p birth (journal_records p birth x more) (records p u (i + 1) more).view × Told (records p u (i + 1) more) (journal_tells p birth x (i + 1) more)) →
+          Stands p birth (elim n as (λ _. Journal) [ took x ↦ journal_records p birth x more | turned r ↦ j ]) (follow p v i d more).view
+          × Told (follow p v i d more) (elim n as (λ _. Telling) [ took x ↦ tells_more (note.q_of x) (journal_tells p birth x (i + 1) more) | turned r ↦ record { levels = []; says = Err (raised r i) } ])
+      by (taken u) (took x) t e go = let rest = go x u t in (rest.0, (cc (rest.1.0), rest.1.1))
       by (taken u) (turned r) t e go = cc
       by (refused r) (took x) t e go = cc
-      by (refused r) (turned q) t e go = t
+      by (refused r) (turned q) t e go = (t, (refl, cc))
 
   -- ---- a call on a fit chip
 
@@ -101,7 +115,7 @@ module _ (p : Shape) (law : Lawful p) (birth : List ℕ) where
   fit_stands (capture bytes room) j v s = by (refused_capture bytes room)
     where
       by : (o : Option Refusal) → Stands p birth (kept_by o j (journal_records p birth j bytes)) (call.unless o v (records p v 0 bytes)).view
-      by None = recorded bytes 0 j v s
+      by None = (recorded bytes 0 j v s).0
       by (Some r) = s
   fit_stands (copy page at room) j v s = by (refused_copy p (rule.running v.cycle) page at room)
     where
