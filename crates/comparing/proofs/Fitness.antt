@@ -1,15 +1,13 @@
 -- A capture leaves a delivered part fit, so the comparison is made.
-use Rattle.std.proofs.Common.{◌≡◌, ℕ, Bool, true, false, List, [], ◌∷◌, take, is_ok, Some, None, Ok, Err, Option, Result, refl, ap, ◌∙◌, inr, lit≤}
+use Rattle.std.proofs.Common.{◌≡◌, ℕ, true, List, [], ◌∷◌, take, is_ok, None, Ok, Err, Result, refl, ◌∙◌, inr, lit≤}
 use Rattle.std.specs.Result.{result_err}
 use Rattle.backing.specs.declared.fault.Fault.{Fault}
-use Rattle.backing.specs.declared.refusal.Refusal.{Refusal}
 use Rattle.rules.specs.Shape.{Lawful, cell_count}
 use Rattle.rules.specs.Tables.{unfit}
 use Rattle.rules.specs.Calls.{capture}
 use Rattle.laws.specs.Bench.{bench, delivered}
 use Rattle.laws.proofs.Main.{cells_stand}
-use Rattle.chip.specs.Answers.{checked}
-use Rattle.chip.specs.Sameness.{Compared, first_of}
+use Rattle.chip.specs.Sameness.{Compared}
 use Rattle.chip.specs.declared.sameness.Comparison.{Comparison}
 use Rattle.comparing.specs.Running.{ran}
 
@@ -23,18 +21,9 @@ ran_fit : (records : List ℕ) (room : ℕ) → unfit bench (ran records room).v
 unfolding ran
 ran_fit records room = (cells_stand bench bench_lawful delivered (capture records room ∷ [])).fitness ∙ delivered_fit
 
-absent : Option Fault → Bool
-absent None = true
-absent (Some e) = false
-
 ok_of : (r : Result Comparison Fault) → result_err r ≡ None → is_ok r ≡ true
-unfolding absent
 ok_of (Ok x) e = refl
-ok_of (Err f) e = ap absent e
+ok_of (Err f) e = cc
 
 pub ran_compared : (first second : List ℕ) (room : ℕ) (r : Result Comparison Fault) → Compared bench (ran first room).view (ran second room).view r → is_ok r ≡ true
-ran_compared first second room r h =
-    ok_of r
-    (h.faults
-    ∙ ap (λ (o : Option Refusal). result_err (first_of (checked o) (checked (unfit bench (ran second room).view.cells)))) (ran_fit first room)
-    ∙ ap (λ (o : Option Refusal). result_err (first_of (checked None) (checked o))) (ran_fit second room))
+ran_compared first second room r h = ok_of r (h.faults ∙ rw (ran_fit first room, ran_fit second room))

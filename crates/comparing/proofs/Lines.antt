@@ -1,34 +1,26 @@
 -- The lines of a report.
-use Rattle.std.proofs.Common.{◌≡◌, ℕ, ◌+◌, ◌^◌, ◌<◌, ◌≤◌, List, ◌++◌, length, Ok, Err, codes, decimal, Result, sym, ap, ◌∙◌, subst, append_assoc, arith, lit<}
+use Rattle.std.proofs.Common.{◌≡◌, ℕ, ◌+◌, ◌^◌, ◌<◌, ◌≤◌, List, ◌++◌, length, Ok, Err, codes, decimal, Result, append_assoc, arith, lit<}
 use Rattle.std.proofs.lemmas.Fmt.{length-decimal-le}
 use Rattle.std.proofs.lemmas.List.{length-append}
 use Rattle.text.specs.Writers.{Holds}
 use Rattle.text.specs.declared.writer.Writer.{Writer}
 use Rattle.backing.specs.Faults.{number}
 use Rattle.backing.specs.declared.refusal.Refusal.{Refusal}
-use Rattle.backing.specs.declared.refusal.Refusal.TheVariants.{ShortBacking, StatusBits, LockValue, UnknownKind, BadLevel, PinAlreadyThere, NoCycle, PowerSelected, PowerInCycle, OddLength, ShortAnswers, NoSuchPage, ShortBuffer, CycleRunning, PastRow, LongInput}
+use Rattle.backing.specs.declared.refusal.Refusal.TheVariants.{ShortBacking}
 use Rattle.backing.specs.declared.fault.Fault.{Fault}
 use Rattle.chip.specs.declared.sameness.Comparison.{Comparison}
-use Rattle.chip.specs.declared.sameness.Comparison.TheVariants.{Selected, Running, Same, Different}
+use Rattle.chip.specs.declared.sameness.Comparison.TheVariants.{Selected}
 use Rattle.comparing.specs.declared.Report.{Report}
 use Rattle.comparing.specs.Telling.{capture_line, comparison_line, words_of, told}
 
 pub taken_line : (b t whose : List ℕ) (n : ℕ) (answer : Result ℕ Fault) (w : Writer) → answer ≡ Ok n → Holds b (((t ++ whose) ++ decimal n) ++ codes " records\n") w → Holds b (t ++ capture_line whose answer) w
-taken_line b t whose n answer w e h =
-    let G : t ++ capture_line whose (Ok n) ≡ ((t ++ whose) ++ decimal n) ++ codes " records\n" = simp append_assoc in
-    subst (λ (s : List ℕ). Holds b s w) (sym (ap (λ (a : Result ℕ Fault). t ++ capture_line whose a) e ∙ G)) h
+taken_line b t whose n answer w e h = rw e (simp append_assoc (simp append_assoc at h))
 
 pub refused_line : (b t whose : List ℕ) (k : ℕ) (f : Fault) (answer : Result ℕ Fault) (w : Writer) → answer ≡ Err f → k ≡ number f.refusal → Holds b ((((((t ++ whose) ++ codes "refused ") ++ decimal k) ++ codes " at ") ++ decimal f.«record») ++ codes "\n") w → Holds b (t ++ capture_line whose answer) w
-refused_line b t whose k f answer w e n h =
-    let G : t ++ capture_line whose (Err f) ≡ (((((t ++ whose) ++ codes "refused ") ++ decimal (number f.refusal)) ++ codes " at ") ++ decimal f.«record») ++ codes "\n" = simp append_assoc in
-    let N = ap (λ m. (((((t ++ whose) ++ codes "refused ") ++ decimal m) ++ codes " at ") ++ decimal f.«record») ++ codes "\n") n in
-    subst (λ (s : List ℕ). Holds b s w) (N ∙ sym (ap (λ (a : Result ℕ Fault). t ++ capture_line whose a) e ∙ G)) h
+refused_line b t whose k f answer w e n h = rw (e, ← n) (simp append_assoc (simp append_assoc at h))
 
 pub faulty_line : (b t : List ℕ) (k : ℕ) (f : Fault) (answer : Result Comparison Fault) (w : Writer) → answer ≡ Err f → k ≡ number f.refusal → Holds b (((t ++ codes "not compared: refused ") ++ decimal k) ++ codes "\n") w → Holds b (t ++ comparison_line answer) w
-faulty_line b t k f answer w e n h =
-    let G : t ++ comparison_line (Err f) ≡ ((t ++ codes "not compared: refused ") ++ decimal (number f.refusal)) ++ codes "\n" = simp append_assoc in
-    let N = ap (λ m. ((t ++ codes "not compared: refused ") ++ decimal m) ++ codes "\n") n in
-    subst (λ (s : List ℕ). Holds b s w) (N ∙ sym (ap (λ (a : Result Comparison Fault). t ++ comparison_line a) e ∙ G)) h
+faulty_line b t k f answer w e n h = rw (e, ← n) (simp append_assoc at h)
 
 -- a number of 64 bits has at most twenty digits
 decimal_short : (n : ℕ) → n < 2 ^ 64 → length (decimal n) ≤ 20
@@ -36,21 +28,7 @@ decimal_short n h = length-decimal-le 20 n (omega arith) (omega arith) h
 
 number_small : (r : Refusal) → number r < 100
 number_small ShortBacking = lit< tt
-number_small StatusBits = lit< tt
-number_small LockValue = lit< tt
-number_small UnknownKind = lit< tt
-number_small BadLevel = lit< tt
-number_small PinAlreadyThere = lit< tt
-number_small NoCycle = lit< tt
-number_small PowerSelected = lit< tt
-number_small PowerInCycle = lit< tt
-number_small OddLength = lit< tt
-number_small ShortAnswers = lit< tt
-number_small NoSuchPage = lit< tt
-number_small ShortBuffer = lit< tt
-number_small CycleRunning = lit< tt
-number_small PastRow = lit< tt
-number_small LongInput = lit< tt
+number_small r = lit< tt
 
 number_short : (r : Refusal) → length (decimal (number r)) ≤ 2
 number_short r =
@@ -58,23 +36,17 @@ number_short r =
     length-decimal-le 2 (number r) (omega arith) h (omega arith)
 
 pub taken_short : (whose : List ℕ) (n : ℕ) (answer : Result ℕ Fault) → answer ≡ Ok n → n < 2 ^ 64 → length (capture_line whose answer) ≤ length whose + 53
-taken_short whose n answer e h =
-    let d = decimal_short n h in
-    let G : length (capture_line whose (Ok n)) ≤ length whose + 53 = simp length-append (omega arith) in
-    subst (λ (a : Result ℕ Fault). length (capture_line whose a) ≤ length whose + 53) (sym e) G
+taken_short whose n answer e h = let d = decimal_short n h in rw e (simp length-append (omega arith))
 
 pub refused_short : (whose : List ℕ) (f : Fault) (answer : Result ℕ Fault) → answer ≡ Err f → f.«record» < 2 ^ 64 → length (capture_line whose answer) ≤ length whose + 53
 refused_short whose f answer e h =
     let d = decimal_short f.«record» h in
     let n = number_short f.refusal in
-    let G : length (capture_line whose (Err f)) ≤ length whose + 53 = simp length-append (omega arith) in
-    subst (λ (a : Result ℕ Fault). length (capture_line whose a) ≤ length whose + 53) (sym e) G
+    rw e (simp length-append (omega arith))
 
 words_short : (c : Comparison) → length (words_of c) ≤ 28
 words_short Selected = omega arith
-words_short Running = omega arith
-words_short Same = omega arith
-words_short Different = omega arith
+words_short c = omega arith
 
 comparison_short : (answer : Result Comparison Fault) → length (comparison_line answer) ≤ 28
 comparison_short (Ok c) = words_short c

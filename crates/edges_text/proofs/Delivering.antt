@@ -1,5 +1,5 @@
 -- A capture on a delivered part over an image.
-use Rattle.std.proofs.Common.{◌≡◌, ℕ, List, refl, ap, ◌∙◌}
+use Rattle.std.proofs.Common.{◌≡◌, ℕ, List, refl}
 use Rattle.backing.specs.Rows.{imaged}
 use Rattle.rules.specs.Rules.{View, born}
 use Rattle.rules.specs.Calls.{outcome, capture}
@@ -11,8 +11,8 @@ unfolding imaged
 born_imaged = refl
 
 pub born_fresh : (v : View) (cells : List ℕ) → v ≡ born bench (imaged cells) → cells ≡ delivered → v ≡ fresh
-born_fresh v cells e f = e ∙ ap (λ xs. born bench (imaged xs)) f ∙ born_imaged
+born_fresh v cells e f = rw (e, f) born_imaged
 
 pub outcome_ran : (v : View) (input : List ℕ) (room : ℕ) → v ≡ fresh → room ≡ 30000 → outcome bench v (capture input room) ≡ ran input
 unfolding ran
-outcome_ran v input room e f = ap (λ w. outcome bench w (capture input room)) e ∙ ap (λ n. outcome bench fresh (capture input n)) f
+outcome_ran v input room e f = rw (e, f)

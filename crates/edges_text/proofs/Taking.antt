@@ -1,5 +1,5 @@
 -- How many records a capture takes.
-use Rattle.std.proofs.Common.{◌≡◌, ℕ, ◌+◌, ◌-◌, ◌*◌, ◌≤◌, List, [], ◌∷◌, map, length, take, drop, Some, None, Err, Option, Result, ap, ◌∙◌, arith}
+use Rattle.std.proofs.Common.{◌≡◌, ℕ, ◌+◌, ◌-◌, ◌*◌, ◌≤◌, List, [], ◌∷◌, map, length, take, drop, Some, None, Err, Option, Result, arith}
 use Rattle.std.proofs.lemmas.List.{length-map, take_at}
 use Rattle.backing.specs.Faults.{raised}
 use Rattle.backing.specs.declared.fault.Fault.{Fault}
@@ -43,7 +43,7 @@ ran_takes input = capture_takes bench fresh input 30000
 
 -- as many levels as records taken
 pub levels_taken : (input : List ℕ) (says : Result ℕ Fault) (n : ℕ) → says ≡ (ran input).says → n ≡ taken_of says → n ≡ length (ran input).levels
-levels_taken input says n e f = f ∙ ap taken_of e ∙ (let t = ran_takes input in let h : taken_of (ran input).says ≡ length (ran input).levels = omega arith in h)
+levels_taken input says n e f = let t = ran_takes input in rw (f, e) (omega arith)
 
 -- which find room
 pub room_taken : (input : List ℕ) (n : ℕ) → n ≡ length (ran input).levels → length input ≤ 60000 → n ≤ 30000
@@ -51,4 +51,4 @@ room_taken input n e h = let t = ran_takes input in omega arith
 
 pub answers_taken : (qs : List Level) (answers old : List ℕ) (n : ℕ) → answers ≡ written qs old → n ≡ length qs → take (n - 0) answers ≡ map level_number qs
 answers_taken qs answers old n e f =
-    ap (take (n - 0)) e ∙ take_at (map level_number qs) (drop (length qs) old) (n - 0) (length-map qs level_number ∙ omega arith)
+    rw (e, take_at (map level_number qs) (drop (length qs) old) (n - 0) (omega (arith, length-map qs level_number)))

@@ -1,24 +1,21 @@
 -- The journal keeps what the chip shows.
-use Rattle.std.proofs.Common.{◌≡◌, ℕ, ◌+◌, ◌-◌, ◌%◌, ◌<◌, Bool, true, false, not, ◌&&◌, eqb, ltb, ◌⊎◌, List, [], ◌∷◌, ◌++◌, length, get_or, take, sym, refl, ap, ◌∙◌, inl, inr, Option, None, Some}
-use Rattle.std.proofs.lemmas.Bool.{both_ways}
+use Rattle.std.proofs.Common.{◌≡◌, ℕ, ◌%◌, ◌<◌, Bool, true, false, not, ◌&&◌, eqb, ltb, ◌⊎◌, List, [], ◌∷◌, ◌++◌, length, get_or, take, refl, ap, ◌∙◌, inl, inr, Option, None, Some}
 use Rattle.rules.specs.declared.state.Level.{Level}
 use Rattle.rules.specs.declared.state.Level.TheVariants.{Float}
 use Rattle.rules.specs.declared.state.Instruction.{Instruction}
 use Rattle.rules.specs.declared.state.Instruction.TheVariants as name
 use Rattle.rules.specs.declared.state.Access.{Access}
 use Rattle.rules.specs.declared.state.Access.TheVariants as access
-use Rattle.rules.specs.declared.state.Region.TheVariants as region
-use Rattle.rules.specs.declared.state.Target.TheVariants as target
 use Rattle.rules.specs.declared.state.Shift.{Shift}
 use Rattle.rules.specs.declared.state.Pending.{Pending}
 use Rattle.rules.specs.declared.state.Phase.{Phase}
-use Rattle.rules.specs.declared.state.Phase.TheVariants.{Deselected, Instruction as Instructing, Ignored, Enable, Disable, Status, Address, Output, Input}
+use Rattle.rules.specs.declared.state.Phase.TheVariants.{Deselected, Instruction as Instructing, Ignored, Status, Address, Output}
 use Rattle.rules.specs.Shape.{Shape, cell_count}
 use Rattle.rules.specs.Tables.{named, accepted, a10}
 use Rattle.rules.specs.Rules as rule
 use Rattle.rules.specs.Rules.{View, running, is_off, judged, begun, latched, place, at_rest, pushed, filled, aimed, laid, base, reach, moved, shifted, shift_out, same_shown, closed, counts}
 use Rattle.laws.specs.Journal.{Journal, Noted, unread, noted, Entry, enabled, cycle_runs, byte_of, number}
-use Rattle.laws.proofs.Bits.{goes_on}
+use Rattle.laws.proofs.Bits.{goes_on, pick, goes_on_stays}
 use Rattle.laws.proofs.Regions.{status_phase}
 
 -- the cells as they will be once a running cycle has ended
@@ -33,18 +30,17 @@ pub record Mem (p : Shape) (birth : List ℕ) (es : List Entry) (cy : Option Pen
   pub now_is : (i : ℕ) → i < cell_count p → get_or cells i 0 ≡ byte_of birth i false es
   pub then_is : (i : ℕ) → i < cell_count p → get_or (pend p cy cells) i 0 ≡ byte_of birth i true es
 
+-- the phase of a stretch after the eight bits that were judged, and the rest
+abbrev pub judged_on : ℕ → (accepts wel : Bool) → (eight rest : List Bool) → Phase
+judged_on ident a wel eight rest = goes_on ident (judged a wel (named (number eight))) rest
+
 -- the sample of the output side: the status byte as the journal has it, or the cell that is being read; not yet while
 -- the fall for the byte's first bit is to come
 abbrev pub SampleOk : Shape → List ℕ → (due : Bool) → Phase → (sample sampled : ℕ) → Type 0
-SampleOk p cells due Deselected sample sampled = Unit {0}
 SampleOk p cells due (Instructing n v) sample sampled = sample ≡ sampled
-SampleOk p cells due Ignored sample sampled = Unit {0}
-SampleOk p cells due Enable sample sampled = Unit {0}
-SampleOk p cells due Disable sample sampled = Unit {0}
 SampleOk p cells due (Status k) sample sampled = sample ≡ sampled
-SampleOk p cells due (Address a wel n v) sample sampled = Unit {0}
 SampleOk p cells due (Output r a k) sample sampled = (due && eqb k 0) ≡ false → sample ≡ get_or cells (place p r a) 0
-SampleOk p cells due (Input g) sample sampled = Unit {0}
+SampleOk p cells due ph sample sampled = Unit {0}
 
 -- how the stretch stands
 pub data Fits (p : Shape) (cells : List ℕ) (es : List Entry) : (s c held : Bool) → List Bool → Noted → Level → ℕ → Phase → Shift → Type 0 where
@@ -53,9 +49,9 @@ pub data Fits (p : Shape) (cells : List ℕ) (es : List Entry) : (s c held : Boo
       Fits p cells es false c held bits unread last sampled (Instructing (length bits) (number bits)) (record { held = held; shown = last; sample = sampled })
   old : {c held : Bool} {last : Level} {sampled : ℕ} (eight rest : List Bool) (a wel : Bool) (sample : ℕ) → length eight ≡ 8 →
       (a ≡ true → accepted (cycle_runs es) (named (number eight)) ≡ true) →
-      SampleOk p cells (c && not held) (goes_on p.ident (judged a wel (named (number eight))) rest) sample sampled →
+      SampleOk p cells (c && not held) (judged_on p.ident a wel eight rest) sample sampled →
       Fits p cells es false c held (eight ++ rest) (noted a wel) last sampled
-      (goes_on p.ident (judged a wel (named (number eight))) rest) (record { held = held; shown = last; sample = sample })
+      (judged_on p.ident a wel eight rest) (record { held = held; shown = last; sample = sample })
 
 abbrev pub jr : (s c d w h held : Bool) → List Bool → Noted → Level → ℕ → List Entry → Journal
 jr s c d w h held bits nt last sampled es =
@@ -72,53 +68,27 @@ pub data Tracks (p : Shape) (birth : List ℕ) : Journal → View → Type 0 whe
 
 -- ---- a stretch stays one, and is judged once
 
-abbrev pub late : Phase → Bool
+abbrev late : Phase → Bool
 late Deselected = false
 late (Instructing n v) = false
-late Ignored = true
-late Enable = true
-late Disable = true
-late (Status k) = true
-late (Address a wel n v) = true
-late (Output r a k) = true
-late (Input g) = true
+late ph = true
 
-pub late_off : (ph : Phase) → late ph ≡ true → is_off ph ≡ false
-late_off Deselected e = sym e
-late_off (Instructing n v) e = refl
-late_off Ignored e = refl
-late_off Enable e = refl
-late_off Disable e = refl
-late_off (Status k) e = refl
-late_off (Address a wel n v) e = refl
-late_off (Output r a k) e = refl
-late_off (Input g) e = refl
-
--- what holds of both ways of a test
-pub pick : (P : Phase → Type 0) (t : Bool) (x y : Phase) → P x → P y → P (elim t as (λ _. Phase) [ true ↦ x | false ↦ y ])
-pick P true x y a b = a
-pick P false x y a b = b
+late_off : (ph : Phase) → late ph ≡ true → is_off ph ≡ false
+late_off Deselected e = cc
+late_off ph e = refl
 
 late_aimed : (ident : ℕ) (a : Access) (wel : Bool) (v : ℕ) → late (aimed ident a wel v) ≡ true
-late_aimed ident access.Read wel v = refl
-late_aimed ident access.Write wel v = refl
-late_aimed ident access.ReadIdent wel v = pick (λ ph. late ph ≡ true) (a10 v) (Output region.Lock v 0) (Output region.Ident v 0) refl refl
-late_aimed ident access.WriteIdent wel v =
-    pick (λ ph. late ph ≡ true) (a10 v) (Input (rule.empty target.Lock wel v 0 0)) (Input (rule.empty target.Ident wel v (v % ident) (ident - 1))) refl refl
-late_aimed ident access.ReadUnique wel v = refl
+late_aimed ident access.ReadIdent wel v = pick (λ ph. late ph ≡ true) (a10 v) _ _ refl refl
+late_aimed ident access.WriteIdent wel v = pick (λ ph. late ph ≡ true) (a10 v) _ _ refl refl
+late_aimed ident a wel v = refl
 
 late_on : (ident : ℕ) (d : Bool) (ph : Phase) → late ph ≡ true → late (latched ident false false d ph) ≡ true
 late_on ident d Deselected e = e
-late_on ident d (Instructing n v) e = absurd (both_ways false refl e)
-late_on ident d Ignored e = refl
-late_on ident d Enable e = refl
-late_on ident d Disable e = refl
-late_on ident d (Status k) e = refl
+late_on ident d (Instructing n v) e = cc
 late_on ident d (Address a wel n v) e =
-    pick (λ ph. late ph ≡ true) (ltb n 23) (Address a wel (n + 1) (rule.pushed_address v d)) (aimed ident a wel (rule.pushed_address v d)) refl (late_aimed ident a wel (rule.pushed_address v d))
-late_on ident d (Output r a k) e =
-    pick (λ ph. late ph ≡ true) (ltb k 7) (Output r a (k + 1)) (Output r ((a + 1) % 4294967296) 0) refl refl
-late_on ident d (Input g) e = refl
+    pick (λ ph. late ph ≡ true) (ltb n 23) _ _ refl (late_aimed ident a wel (rule.pushed_address v d))
+late_on ident d (Output r a k) e = pick (λ ph. late ph ≡ true) (ltb k 7) _ _ refl refl
+late_on ident d ph e = refl
 
 late_goes : (ident : ℕ) (bs : List Bool) (ph : Phase) → late ph ≡ true → late (goes_on ident ph bs) ≡ true
 late_goes ident [] ph e = e
@@ -127,74 +97,43 @@ late_goes ident (b ∷ bs) ph e = late_goes ident bs (latched ident false false 
 late_judged : (a wel : Bool) (i : Instruction) → late (judged a wel i) ≡ true
 late_judged false wel i = refl
 late_judged true wel name.Wren = refl
-late_judged true wel name.Wrdi = refl
-late_judged true wel name.Rdsr = refl
-late_judged true wel name.Wrsr = refl
-late_judged true wel name.Read = refl
-late_judged true wel name.Write = refl
-late_judged true wel name.RdidRdls = refl
-late_judged true wel name.WridLid = refl
-late_judged true wel name.Rduid = refl
-late_judged true wel name.Unknown = refl
+late_judged true wel i = refl
 
 pub late_old : (ident : ℕ) (a wel : Bool) (i : Instruction) (rest : List Bool) → late (goes_on ident (judged a wel i) rest) ≡ true
 late_old ident a wel i rest = late_goes ident rest (judged a wel i) (late_judged a wel i)
 
+pub old_off : (ident : ℕ) (a wel : Bool) (eight rest : List Bool) → is_off (judged_on ident a wel eight rest) ≡ false
+old_off ident a wel eight rest = late_off _ (late_old ident a wel (named (number eight)) rest)
+
 -- after the eighth bit the cycle and WEL of the moment do not matter to a latch
 pub latched_late : (ident : ℕ) (runs wel d : Bool) (ph : Phase) → late ph ≡ true → latched ident runs wel d ph ≡ latched ident false false d ph
-latched_late ident runs wel d Deselected e = refl
-latched_late ident runs wel d (Instructing n v) e = absurd (both_ways false refl e)
-latched_late ident runs wel d Ignored e = refl
-latched_late ident runs wel d Enable e = refl
-latched_late ident runs wel d Disable e = refl
-latched_late ident runs wel d (Status k) e = refl
-latched_late ident runs wel d (Address a was n v) e = refl
-latched_late ident runs wel d (Output r a k) e = refl
-latched_late ident runs wel d (Input g) e = refl
+latched_late ident runs wel d (Instructing n v) e = cc
+latched_late ident runs wel d ph e = refl
 
 -- the sample through a latch
 sample_aimed : (p : Shape) (cells : List ℕ) (ident : ℕ) (a : Access) (wel : Bool) (v sample sampled : ℕ) → SampleOk p cells true (aimed ident a wel v) sample sampled
-sample_aimed p cells ident access.Read wel v sample sampled = λ e. absurd (both_ways true e refl)
 sample_aimed p cells ident access.Write wel v sample sampled = tt
-sample_aimed p cells ident access.ReadIdent wel v sample sampled =
-    pick (λ ph. SampleOk p cells true ph sample sampled) (a10 v) (Output region.Lock v 0) (Output region.Ident v 0) (λ e. absurd (both_ways true e refl)) (λ e. absurd (both_ways true e refl))
-sample_aimed p cells ident access.WriteIdent wel v sample sampled =
-    pick (λ ph. SampleOk p cells true ph sample sampled) (a10 v) (Input (rule.empty target.Lock wel v 0 0)) (Input (rule.empty target.Ident wel v (v % ident) (ident - 1))) tt tt
-sample_aimed p cells ident access.ReadUnique wel v sample sampled = λ e. absurd (both_ways true e refl)
+sample_aimed p cells ident access.ReadIdent wel v sample sampled = pick (λ ph. SampleOk p cells true ph sample sampled) (a10 v) _ _ (λ e. cc) (λ e. cc)
+sample_aimed p cells ident access.WriteIdent wel v sample sampled = pick (λ ph. SampleOk p cells true ph sample sampled) (a10 v) _ _ tt tt
+sample_aimed p cells ident a wel v sample sampled = λ e. cc
 
 pub sample_latched : (p : Shape) (cells : List ℕ) (ident : ℕ) (d : Bool) (ph : Phase) (sample sampled : ℕ) → late ph ≡ true → SampleOk p cells false ph sample sampled → SampleOk p cells true (latched ident false false d ph) sample sampled
-sample_latched p cells ident d Deselected sample sampled e h = tt
-sample_latched p cells ident d (Instructing n v) sample sampled e h = absurd (both_ways false refl e)
-sample_latched p cells ident d Ignored sample sampled e h = tt
-sample_latched p cells ident d Enable sample sampled e h = tt
-sample_latched p cells ident d Disable sample sampled e h = tt
+sample_latched p cells ident d (Instructing n v) sample sampled e h = cc
 sample_latched p cells ident d (Status k) sample sampled e h = h
 sample_latched p cells ident d (Address a wel n v) sample sampled e h =
-    pick (λ ph. SampleOk p cells true ph sample sampled) (ltb n 23) (Address a wel (n + 1) (rule.pushed_address v d)) (aimed ident a wel (rule.pushed_address v d)) tt (sample_aimed p cells ident a wel (rule.pushed_address v d) sample sampled)
+    pick (λ ph. SampleOk p cells true ph sample sampled) (ltb n 23) _ _ tt (sample_aimed p cells ident a wel (rule.pushed_address v d) sample sampled)
 sample_latched p cells ident d (Output r a k) sample sampled e h =
-    pick (λ ph. SampleOk p cells true ph sample sampled) (ltb k 7) (Output r a (k + 1)) (Output r ((a + 1) % 4294967296) 0) (λ _. h refl) (λ z. absurd (both_ways true z refl))
-sample_latched p cells ident d (Input g) sample sampled e h = tt
+    pick (λ ph. SampleOk p cells true ph sample sampled) (ltb k 7) _ _ (λ _. h refl) (λ z. cc)
+sample_latched p cells ident d ph sample sampled e h = tt
 
 -- an instruction that is accepted while a cycle runs is RDSR
 pub only_rdsr : (i : Instruction) → accepted true i ≡ true → i ≡ name.Rdsr
 only_rdsr name.Rdsr e = refl
-only_rdsr name.Wren e = absurd (both_ways false refl e)
-only_rdsr name.Wrdi e = absurd (both_ways false refl e)
-only_rdsr name.Wrsr e = absurd (both_ways false refl e)
-only_rdsr name.Read e = absurd (both_ways false refl e)
-only_rdsr name.Write e = absurd (both_ways false refl e)
-only_rdsr name.RdidRdls e = absurd (both_ways false refl e)
-only_rdsr name.WridLid e = absurd (both_ways false refl e)
-only_rdsr name.Rduid e = absurd (both_ways false refl e)
-only_rdsr name.Unknown e = absurd (both_ways false refl e)
-
-pub ignored_on : (ident : ℕ) (bs : List Bool) → goes_on ident Ignored bs ≡ Ignored
-ignored_on ident [] = refl
-ignored_on ident (b ∷ bs) = ignored_on ident bs
+only_rdsr i e = cc
 
 -- in a cycle a stretch that is judged is ignored or reads the status
 pub calm : (ident : ℕ) (a wel : Bool) (i : Instruction) (rest : List Bool) → (a ≡ true → accepted true i ≡ true) →
     (goes_on ident (judged a wel i) rest ≡ Ignored) ⊎ (goes_on ident (judged a wel i) rest ≡ Status (length rest % 8))
-calm ident false wel i rest ok = inl (ignored_on ident rest)
+calm ident false wel i rest ok = inl (goes_on_stays ident Ignored (λ _. refl) rest)
 calm ident true wel i rest ok =
     inr (ap (λ x. goes_on ident (begun wel x) rest) (only_rdsr i (ok refl)) ∙ status_phase ident rest)

@@ -1,16 +1,14 @@
 -- The laws over whole runs.
-use Rattle.std.proofs.Common.{◌≡◌, ℕ, suc, ◌+◌, ◌-◌, ◌*◌, ◌/◌, ◌%◌, ◌<◌, ◌≤◌, min, true, false, ltb, List, [], ◌∷◌, ◌++◌, length, get_or, take, drop, Some, None, Ok, Err, Option, Result, sym, refl, ap, ◌∙◌, subst, inl, inr, arith, lit<, length-take}
-use Rattle.std.proofs.lemmas.Bool.{eq-eqb, le-ltb, cases_lt, both_ways}
+use Rattle.std.proofs.Common.{◌≡◌, ℕ, suc, ◌+◌, ◌*◌, ◌/◌, ◌%◌, ◌<◌, ◌≤◌, false, List, [], ◌∷◌, ◌++◌, length, get_or, take, drop, Some, None, Ok, Err, Option, sym, refl, ap, ◌∙◌, inl, inr, arith, lit<, length-take}
+use Rattle.std.proofs.lemmas.Bool.{eq-eqb, le-ltb, cases_lt}
 use Rattle.std.proofs.lemmas.List.{get_or-take, get_or_past, ext_get_or, length-append, length-drop, length-take-le, drop_all, drop_at}
 use Rattle.backing.specs.Faults.{raised}
 use Rattle.backing.specs.Rows.{Bytes}
 use Rattle.backing.specs.declared.refusal.Refusal.{Refusal}
-use Rattle.backing.specs.declared.refusal.Refusal.TheVariants.{OddLength, ShortAnswers}
 use Rattle.backing.specs.declared.fault.Fault.{Fault}
-use Rattle.rules.specs.declared.state.Level.{Level}
 use Rattle.rules.specs.declared.state.Phase.TheVariants.{Deselected}
 use Rattle.rules.specs.Shape.{Shape, Lawful, cell_count}
-use Rattle.rules.specs.Tables.{named, unfit, refused_capture, refused_copy}
+use Rattle.rules.specs.Tables.{unfit, refused_capture, refused_copy}
 use Rattle.rules.specs.Rules as rule
 use Rattle.rules.specs.Rules.{View, Done, taken, refused, step, born, is_off, at_rest}
 use Rattle.rules.specs.Calls as call
@@ -19,12 +17,11 @@ use Rattle.laws.specs.Journal.{Journal, blank, enabled, cell, noted_call, journa
 use Rattle.laws.specs.Journal as note
 use Rattle.laws.specs.Laws as law
 use Rattle.laws.specs.Laws.{Action, send, call_of, answers, as_number, first_of, journal_says, journal_answers, chip_after, Telling, tells_more, journal_tells, told_first, journal_capture, AnswersStand, CapturesStand, Cells, CellsStand, CopiesStand, journal_copy, UnfitStand, RefusedEventStands, ahead_of, RefusedCapture, RefusedCaptureStands, AtRest, Alike, Agree, Sameness, SamenessStands}
-use Rattle.laws.proofs.Bits.{goes_on}
-use Rattle.laws.proofs.Keeps.{Tracks, tracks, resting, young, old, late_off, late_old}
+use Rattle.laws.proofs.Keeps.{Tracks, tracks, resting, young, old, old_off}
 use Rattle.laws.proofs.Sound.{SoundList, byte_by}
 use Rattle.laws.proofs.Plain.{fit_says}
 use Rattle.laws.proofs.Tell.{tells, fit_length}
-use Rattle.laws.proofs.Runs.{Stands, stays_fit, birth_stands, event_stands, event_alike, call_stands, history_stands, unfit_call, unfit_history, unfit_journal}
+use Rattle.laws.proofs.Runs.{Stands, follow, Told, recorded, stays_fit, birth_stands, event_alike, call_stands, history_stands, unfit_call, unfit_history, unfit_journal}
 
 -- a history on a fit birth row
 stands : (p : Shape) → Lawful p → (birth : List ℕ) → unfit p (take (cell_count p) birth) ≡ None → (h : List Call) → Stands p birth (law.journal_after p birth h) (chip_after p birth h)
@@ -36,18 +33,17 @@ fit_answers : (p : Shape) → Lawful p → (birth : List ℕ) → unfit p (take 
 fit_answers p lw birth fit [] j v s = refl
 fit_answers p lw birth fit (send k l ∷ xs) j v s =
     let says : (outcome p v (event k l)).says ≡ journal_says p birth j (send k l) =
-    fit_says p v k l (stays_fit p birth j v fit s) ∙ ap as_number (event_alike p lw birth j v s k l) ∙ sym (ap (λ o. first_of o (as_number (note.journal_answer (note.journal_step p birth j k l)))) fit) in
-    ap (λ a. a ∷ answers p (called p v (event k l)) xs) says
-    ∙ ap (λ as'. journal_says p birth j (send k l) ∷ as') (fit_answers p lw birth fit xs (noted_call p birth j (event k l)) (called p v (event k l)) (call_stands p lw birth fit (event k l) j v s))
+    rw fit (fit_says p v k l (stays_fit p birth j v fit s) ∙ ap as_number (event_alike p lw birth j v s k l)) in
+    let rest = fit_answers p lw birth fit xs (noted_call p birth j (event k l)) (called p v (event k l)) (call_stands p lw birth fit (event k l) j v s) in
+    λ i. says i ∷ rest i
 
 unfit_answers : (p : Shape) (birth : List ℕ) (r : Refusal) → unfit p (take (cell_count p) birth) ≡ Some r → (xs : List Action) (j : Journal) (v : View) → unfit p v.cells ≡ Some r → answers p v xs ≡ journal_answers p birth j xs
 unfit_answers p birth r e [] j v f = refl
 unfit_answers p birth r e (send k l ∷ xs) j v f =
-    let says : (outcome p v (event k l)).says ≡ journal_says p birth j (send k l) =
-    (unfit_call p r v f (event k l)).1 ∙ sym (ap (λ o. first_of o (as_number (note.journal_answer (note.journal_step p birth j k l)))) e) in
-    ap (λ a. a ∷ answers p (called p v (event k l)) xs) says
-    ∙ ap (λ u. journal_says p birth j (send k l) ∷ answers p u xs) (unfit_call p r v f (event k l)).0
-    ∙ ap (λ as'. journal_says p birth j (send k l) ∷ as') (unfit_answers p birth r e xs (noted_call p birth j (event k l)) v f)
+    let says : (outcome p v (event k l)).says ≡ journal_says p birth j (send k l) = rw (f, e) in
+    let rest : answers p (called p v (event k l)) xs ≡ journal_answers p birth (noted_call p birth j (event k l)) xs =
+    ap (λ u. answers p u xs) (unfit_call p r v f (event k l)).0 ∙ unfit_answers p birth r e xs (noted_call p birth j (event k l)) v f in
+    λ i. says i ∷ rest i
 
 pub answers_stand : AnswersStand
 answers_stand p lw birth h xs = by (unfit p (take (cell_count p) birth)) refl
@@ -55,56 +51,41 @@ answers_stand p lw birth h xs = by (unfit p (take (cell_count p) birth)) refl
     by : (o : Option Refusal) → unfit p (take (cell_count p) birth) ≡ o → answers p (chip_after p birth h) xs ≡ journal_answers p birth (law.journal_after p birth h) xs
     by None e = fit_answers p lw birth e xs _ _ (stands p lw birth e h)
     by (Some r) e =
-        ap (λ v. answers p v xs) (unfit_history p r (born p birth) e h)
-        ∙ unfit_answers p birth r e xs (law.journal_after p birth h) (born p birth) e
+        rw (unfit_history p r (born p birth) e h) (unfit_answers p birth r e xs (law.journal_after p birth h) (born p birth) e)
 
 -- ---- cells
 
 -- a row whose front has as many cells as at birth
 row_length : (p : Shape) (birth cells : List ℕ) → length cells ≡ length (take (cell_count p) birth) → length (cells ++ drop (cell_count p) birth) ≡ length birth
-row_length p birth cells e =
-    length-append cells (drop (cell_count p) birth)
-    ∙ sum (length cells) (length (take (cell_count p) birth)) (cell_count p) (length birth) (length (drop (cell_count p) birth)) e (length-take (cell_count p) birth) (length-drop (cell_count p) birth)
-  where
-    sum : (a b n m d : ℕ) → a ≡ b → b ≡ min n m → d ≡ m - n → a + d ≡ m
-    sum a b n m d e f g = omega arith
+row_length p birth cells e = omega (arith, length-append cells (drop (cell_count p) birth), length-take (cell_count p) birth, length-drop (cell_count p) birth)
 
 row_past : (p : Shape) (birth cells : List ℕ) → length cells ≡ length (take (cell_count p) birth) → drop (cell_count p) (cells ++ drop (cell_count p) birth) ≡ drop (cell_count p) birth
 row_past p birth cells e =
     elim (cases_lt (length birth) (cell_count p)) [
       | inl short ↦
-          drop_all (cell_count p) (cells ++ drop (cell_count p) birth) (under (length (cells ++ drop (cell_count p) birth)) (length birth) (cell_count p) (row_length p birth cells e) short)
-          ∙ sym (drop_all (cell_count p) birth (omega arith))
+          let len = row_length p birth cells e in
+          drop_all (cell_count p) (cells ++ drop (cell_count p) birth) (omega arith) ∙ sym (drop_all (cell_count p) birth (omega arith))
       | inr long ↦ drop_at cells (drop (cell_count p) birth) (cell_count p) (e ∙ length-take-le (cell_count p) birth long)
     ]
-  where
-    under : (a b n : ℕ) → a ≡ b → b < n → a ≤ n
-    under a b n e h = omega arith
 
 fit_cells : (p : Shape) (birth : List ℕ) → unfit p (take (cell_count p) birth) ≡ None → (j : Journal) (v : View) → Stands p birth j v → Cells p birth v j
 fit_cells p birth fit j v s = by s.tie (stays_fit p birth j v fit s)
   where
     by : {j : Journal} {v : View} → Tracks p birth j v → unfit p v.cells ≡ None → Cells p birth v j
-    by (tracks ft m) f =
+    by (tracks {cells = cells} ft m) f =
         let long : cell_count p ≤ length (take (cell_count p) birth) = fit_length p (take (cell_count p) birth) fit in
-        let count = m.len_is ∙ whole (cell_count p) (length birth) (length (take (cell_count p) birth)) (length-take (cell_count p) birth) long in
+        let count : length cells ≡ length (take (cell_count p) birth) = omega (arith, length-take (cell_count p) birth) in
         record {
           count = count;
           len = row_length p birth _ count;
           past = row_past p birth _ count;
-          bytes = λ i h. m.now_is i (subst (λ n. i < n) m.len_is h);
+          bytes = λ i h. m.now_is i (omega arith);
           fitness = f ∙ sym fit;
         }
-      where
-        whole : (a b c : ℕ) → c ≡ min a b → a ≤ c → a ≡ c
-        whole a b c e h = omega arith
 
 born_cells : (p : Shape) (birth : List ℕ) → Cells p birth (born p birth) blank
 born_cells p birth =
-    record { count = refl; len = row_length p birth (take (cell_count p) birth) refl; past = row_past p birth (take (cell_count p) birth) refl; bytes = λ i h. get_or-take (cell_count p) birth i 0 (under i (cell_count p) (length birth) (length (take (cell_count p) birth)) (length-take (cell_count p) birth) h); fitness = refl }
-  where
-    under : (i a b c : ℕ) → c ≡ min a b → i < c → i < a
-    under i a b c e h = omega arith
+    record { count = refl; len = row_length p birth (take (cell_count p) birth) refl; past = row_past p birth (take (cell_count p) birth) refl; bytes = λ i h. get_or-take (cell_count p) birth i 0 (omega (arith, length-take (cell_count p) birth)); fitness = refl }
 
 pub cells_stand : CellsStand
 cells_stand p lw birth h = by (unfit p (take (cell_count p) birth)) refl
@@ -112,58 +93,20 @@ cells_stand p lw birth h = by (unfit p (take (cell_count p) birth)) refl
     by : (o : Option Refusal) → unfit p (take (cell_count p) birth) ≡ o → Cells p birth (chip_after p birth h) (law.journal_after p birth h)
     by None e = fit_cells p birth e _ _ (stands p lw birth e h)
     by (Some r) e =
-        subst (λ v. Cells p birth v (law.journal_after p birth h)) (sym (unfit_history p r (born p birth) e h))
-        (subst (λ j. Cells p birth (born p birth) j) (sym (unfit_journal p r birth e blank h)) (born_cells p birth))
+        rw (unfit_history p r (born p birth) e h, unfit_journal p r birth e blank h) (born_cells p birth)
 
 -- ---- captures
-
-abbrev Told : Outcome → Telling → Type 0
-Told o t = (o.levels ≡ t.levels) × (o.says ≡ t.says)
-
-abbrev level_or : Level → Result Level Refusal → Level
-level_or q (Ok x) = x
-level_or q (Err r) = q
-
-abbrev refusal_or : Refusal → Result Level Refusal → Refusal
-refusal_or r (Ok x) = r
-refusal_or r (Err s) = s
-
-abbrev IsLevel : Result Level Refusal → Type 0
-IsLevel (Ok q) = Unit {0}
-IsLevel (Err r) = ⊥
-
-records_told : (p : Shape) → Lawful p → (birth bytes : List ℕ) (i : ℕ) (j : Journal) (v : View) → Stands p birth j v → Told (records p v i bytes) (journal_tells p birth j i bytes)
-records_told p lw birth [] i j v s = (refl, refl)
-records_told p lw birth (k ∷ []) i j v s = (refl, refl)
-records_told p lw birth (k ∷ l ∷ more) i j v s =
-    by (step p v k l) (note.journal_step p birth j k l) (event_alike p lw birth j v s k l) (event_stands p lw birth j v s k l) (λ u x t. records_told p lw birth more (i + 1) x u t)
-  where
-    by : (d : Done) (n : note.Noting) → rule.answer d ≡ note.journal_answer n → Stands p birth (note.after_noting j n) (rule.after v d) →
-        ((u : View) (x : Journal) → Stands p birth x u → Told (records p u (i + 1) more) (journal_tells p birth x (i + 1) more)) →
-        Told (elim d as (λ _. Outcome) [ taken u ↦ call.with_level (rule.seen u.shift) (records p u (i + 1) more) | refused r ↦ record { view = v; levels = []; says = Err (raised r i) } ])
-        (elim n as (λ _. Telling) [ note.took x ↦ tells_more (note.q_of x) (journal_tells p birth x (i + 1) more) | note.turned r ↦ record { levels = []; says = Err (raised r i) } ])
-    by (taken u) (note.took x) e t go =
-        let rest = go u x t in
-        (ap (λ q. q ∷ (records p u (i + 1) more).levels) (ap (level_or (note.q_of x)) e) ∙ ap (λ qs. note.q_of x ∷ qs) rest.0, rest.1)
-    by (taken u) (note.turned r) e t go = absurd (subst IsLevel e tt)
-    by (refused r) (note.took x) e t go = absurd (subst IsLevel (sym e) tt)
-    by (refused r) (note.turned q) e t go = (refl, ap (λ x. Err (raised x i)) (ap (refusal_or r) e))
 
 told_by : (p : Shape) → Lawful p → (birth : List ℕ) (j : Journal) (v : View) (bytes : List ℕ) (o o' : Option Refusal) → (o ≡ None → Stands p birth j v) →
     Told (call.unless o v (call.unless o' v (records p v 0 bytes))) (told_first o (told_first o' (journal_tells p birth j 0 bytes)))
 told_by p lw birth j v bytes (Some r) o' s = (refl, refl)
 told_by p lw birth j v bytes None (Some r) s = (refl, refl)
-told_by p lw birth j v bytes None None s = records_told p lw birth bytes 0 j v (s refl)
+told_by p lw birth j v bytes None None s = (recorded p lw birth bytes 0 j v (s refl)).1
 
 pub captures_stand : CapturesStand
-captures_stand p lw birth h bytes room = by (unfit p (take (cell_count p) birth)) refl
-  where
-    by : (o : Option Refusal) → unfit p (take (cell_count p) birth) ≡ o →
-        Told (outcome p (chip_after p birth h) (capture bytes room)) (journal_capture p birth (law.journal_after p birth h) bytes room)
-    by o e =
-        let same : unfit p (chip_after p birth h).cells ≡ unfit p (take (cell_count p) birth) = (cells_stand p lw birth h).fitness in
-        subst (λ x. Told (call.unless x (chip_after p birth h) (call.unless (refused_capture bytes room) (chip_after p birth h) (records p (chip_after p birth h) 0 bytes))) (journal_capture p birth (law.journal_after p birth h) bytes room)) (sym same)
-        (told_by p lw birth (law.journal_after p birth h) (chip_after p birth h) bytes (unfit p (take (cell_count p) birth)) (refused_capture bytes room) (λ z. stands p lw birth z h))
+captures_stand p lw birth h bytes room =
+    rw (cells_stand p lw birth h).fitness
+    (told_by p lw birth (law.journal_after p birth h) (chip_after p birth h) bytes (unfit p (take (cell_count p) birth)) (refused_capture bytes room) (λ z. stands p lw birth z h))
 
 pub unfit_stand : UnfitStand
 unfit_stand p birth r e h x =
@@ -172,26 +115,21 @@ unfit_stand p birth r e h x =
 
 -- ---- refused calls
 
-abbrev IsErr : Result ℕ Fault → Type 0
-IsErr (Ok n) = ⊥
-IsErr (Err e) = Unit {0}
-
 pub refused_event_stands : RefusedEventStands
 refused_event_stands p v k l e says = by (unfit p v.cells) (step p v k l) says
   where
     by : (o : Option Refusal) (d : Done) → (call.unless o v (call.one_event v d)).says ≡ Err e → (call.unless o v (call.one_event v d)).view ≡ v
     by (Some r) d q = refl
-    by None (taken u) q = absurd (subst IsErr (sym q) tt)
+    by None (taken u) q = cc
     by None (refused r) q = refl
 
 -- ---- sameness
 
 rest_shift : {p : Shape} {birth : List ℕ} {j : Journal} {v : View} → Tracks p birth j v → v.stretch ≡ Deselected → v.shift ≡ at_rest
 rest_shift (tracks resting m) e = refl
-rest_shift (tracks (young lt) m) e = absurd (both_ways false refl (ap is_off e))
+rest_shift (tracks (young lt) m) e = cc
 rest_shift {p} (tracks (old eight rest a wel sample e8 ok so) m) e =
-    absurd (both_ways (is_off (goes_on p.ident (rule.judged a wel (named (note.number eight))) rest))
-    (late_off (goes_on p.ident (rule.judged a wel (named (note.number eight))) rest) (late_old p.ident a wel (named (note.number eight)) rest)) (ap is_off e))
+    let q = rw e at (old_off p.ident a wel eight rest) in cc
 
 -- the bytes of a chip born over a row of bytes
 cells_bytes : (p : Shape) (birth : List ℕ) → Bytes birth → (j : Journal) (v : View) → Stands p birth j v → Bytes v.cells
@@ -200,13 +138,9 @@ cells_bytes p birth bs j v s = by s.tie s.sound
     by : {j : Journal} {v : View} → Tracks p birth j v → SoundList p j.entries → Bytes v.cells
     by (tracks {es = es} {cells = cells} ft m) sound i =
         elim (cases_lt i (cell_count p)) [
-          | inl h ↦ subst (λ x. x < 256) (sym (m.now_is i h)) (byte_by p (λ n x. x < 256) (λ n x g. g.byte) birth bs es sound i false)
-          | inr h ↦ subst (λ x. x < 256) (sym (get_or_past cells i 0 (subst (λ n. n ≤ i) (sym m.len_is) h))) (lit< tt)
+          | inl h ↦ rw (m.now_is i h) (byte_by p (λ n x. x < 256) (λ n x g. g.byte) birth bs es sound i false)
+          | inr h ↦ rw (get_or_past cells i 0 (omega arith)) (lit< tt)
         ]
-
-abbrev IsNone : Option Refusal → Type 0
-IsNone None = Unit {0}
-IsNone (Some r) = ⊥
 
 -- a chip that is fit was born fit
 birth_fit : (p : Shape) (birth : List ℕ) (h : List Call) → unfit p (chip_after p birth h).cells ≡ None → unfit p (take (cell_count p) birth) ≡ None
@@ -214,13 +148,13 @@ birth_fit p birth h f = by (unfit p (take (cell_count p) birth)) refl
   where
     by : (o : Option Refusal) → unfit p (take (cell_count p) birth) ≡ o → unfit p (take (cell_count p) birth) ≡ None
     by None e = e
-    by (Some r) e = absurd (subst IsNone (sym f ∙ ap (λ v. unfit p v.cells) (unfit_history p r (born p birth) e h) ∙ e) tt)
+    by (Some r) e = cc (ap (λ v. unfit p v.cells) (unfit_history p r (born p birth) e h))
 
 -- what agrees is one view
 one_view : {p : Shape} {birth birth' : List ℕ} {j j' : Journal} {u v : View} → Tracks p birth j u → Tracks p birth' j' v → AtRest u → AtRest v → u.shift ≡ v.shift → Agree p birth birth' j j' → u ≡ v
 one_view {p} (tracks {cells = cells} ft m) (tracks {cells = cells'} ft' m') ru rv sh ag =
     let same : cells ≡ cells' = ext_get_or 0 cells cells' (m.len_is ∙ sym m'.len_is)
-    (λ i h. let k = subst (λ n. i < n) m.len_is h in m.now_is i k ∙ (ag.same_cells i k ∙ sym (m'.now_is i k))) in
+    (λ i h. let k : i < cell_count p = omega arith in m.now_is i k ∙ (ag.same_cells i k ∙ sym (m'.now_is i k))) in
     λ i. record {
       pins = record { clock = ag.same_c i; input = ag.same_d i; protect = ag.same_w i; hold = ag.same_h i };
       wel = ag.same_enabled i;
@@ -248,24 +182,12 @@ sameness_stands p lw birth birth' h h' bs bs' f f' r r' =
     let s = stands p lw birth (birth_fit p birth h f) h in
     let s' = stands p lw birth' (birth_fit p birth' h' f') h' in (
       (λ alike. alike_agree s.tie s'.tie
-          (tells p lw (chip_after p birth h) (chip_after p birth' h') r.deselected r.idle (rest_shift s.tie r.deselected) r'.deselected r'.idle (rest_shift s'.tie r'.deselected)
+          (tells p lw (chip_after p birth h) (chip_after p birth' h') r r' (rest_shift s.tie r.deselected) (rest_shift s'.tie r'.deselected)
           (cells_bytes p birth bs _ _ s) (cells_bytes p birth' bs' _ _ s') f f' alike)),
       (λ ag xs _. ap (λ v. answers p v xs) (one_view s.tie s'.tie r r' (rest_shift s.tie r.deselected ∙ sym (rest_shift s'.tie r'.deselected)) ag)),
     )
 
 -- ---- a refused capture
-
-abbrev fault_record : Result ℕ Fault → ℕ
-fault_record (Ok n) = 0
-fault_record (Err e) = e.«record»
-
--- the records after a first one that came to d
-abbrev follow : Shape → View → ℕ → Done → List ℕ → Outcome
-follow p v i d more =
-    elim d as (λ _. Outcome) [
-      | taken u ↦ call.with_level (rule.seen u.shift) (records p u (i + 1) more)
-      | refused r ↦ record { view = v; levels = []; says = Err (raised r i) }
-    ]
 
 -- n records, and then a refused one
 record Stops (p : Shape) (v : View) (i : ℕ) (bytes : List ℕ) (e : Fault) : Type 0 where
@@ -278,145 +200,82 @@ record Stops (p : Shape) (v : View) (i : ℕ) (bytes : List ℕ) (e : Fault) : T
   here : step p (records p v i (take (2 * n) bytes)).view (get_or bytes (2 * n) 0) (get_or bytes (2 * n + 1) 0) ≡ refused e.refusal
   fault : e ≡ raised e.refusal e.«record»
 
-abbrev fault_or : Fault → Result ℕ Fault → Fault
-fault_or d (Ok n) = d
-fault_or d (Err e) = e
-
 stops : (p : Shape) (bytes : List ℕ) (v : View) (i : ℕ) (e : Fault) → (records p v i bytes).says ≡ Err e → Stops p v i bytes e
-stops p [] v i e q = absurd (subst IsErr (sym q) tt)
-stops p (k ∷ []) v i e q = absurd (subst IsErr (sym q) tt)
+stops p [] v i e q = cc
+stops p (k ∷ []) v i e q = cc
 stops p (k ∷ l ∷ more) v i e q = by (step p v k l) refl q (λ u z. stops p more u (i + 1) e z)
   where
     by : (d : Done) → step p v k l ≡ d → (follow p v i d more).says ≡ Err e → ((u : View) → (records p u (i + 1) more).says ≡ Err e → Stops p u (i + 1) more e) → Stops p v i (k ∷ l ∷ more) e
     by (refused r) s z go =
-        let f : raised r i ≡ e = ap (fault_or e) z in
-        let zero : i + 0 ≡ i = omega arith in
+        let f : raised r i ≡ e = cc in
         record {
           n = 0;
-          at = sym (ap (λ x. x.«record») f) ∙ sym zero;
+          at = rw (← f) (omega arith);
           some = omega arith;
-          same = ap (λ d. (follow p v i d more).view) s;
-          levels = ap (λ d. (follow p v i d more).levels) s;
-          before = ap Ok (sym zero);
-          here = s ∙ ap refused (ap (λ x. x.refusal) f);
-          fault = sym f ∙ ap (λ x. raised x.refusal x.«record») f;
+          same = rw (s, records);
+          levels = rw (s, records);
+          before = ap Ok (omega arith);
+          here = rw (s, ← f);
+          fault = rw (← f);
         }
     by (taken u) s z go =
         let c = go u z in
         let two : 2 * (c.n + 1) ≡ suc (suc (2 * c.n)) = omega arith in
-        let three : 2 * (c.n + 1) + 1 ≡ suc (suc (2 * c.n + 1)) = omega arith in
-        let sum : i + 1 + c.n ≡ i + (c.n + 1) = omega arith in
-        let ys : List ℕ = take (2 * c.n) more in
-        let cut : (F : List ℕ → Type 0) → F (k ∷ l ∷ ys) → F (take (2 * (c.n + 1)) (k ∷ l ∷ more)) = λ F x. subst (λ m. F (take m (k ∷ l ∷ more))) (sym two) x in
+        let three : suc (suc (2 * c.n)) + 1 ≡ suc (suc (2 * c.n + 1)) = omega arith in
         record {
           n = c.n + 1;
-          at = c.at ∙ sum;
-          some = longer c.n (length more) c.some;
-          same = cut (λ zs. (records p v i (k ∷ l ∷ more)).view ≡ (records p v i zs).view)
-              (ap (λ d. (follow p v i d more).view) s ∙ c.same ∙ sym (ap (λ d. (follow p v i d ys).view) s));
-          levels = cut (λ zs. (records p v i (k ∷ l ∷ more)).levels ≡ (records p v i zs).levels)
-              (ap (λ d. (follow p v i d more).levels) s ∙ ap (λ qs. rule.seen u.shift ∷ qs) c.levels ∙ sym (ap (λ d. (follow p v i d ys).levels) s));
-          before = cut (λ zs. (records p v i zs).says ≡ Ok (i + (c.n + 1)))
-              (ap (λ d. (follow p v i d ys).says) s ∙ c.before ∙ ap Ok sum);
-          here = cut (λ zs. step p (records p v i zs).view (get_or (k ∷ l ∷ more) (2 * (c.n + 1)) 0) (get_or (k ∷ l ∷ more) (2 * (c.n + 1) + 1) 0) ≡ refused e.refusal)
-              (ap (λ w. step p w (get_or (k ∷ l ∷ more) (2 * (c.n + 1)) 0) (get_or (k ∷ l ∷ more) (2 * (c.n + 1) + 1) 0)) (ap (λ d. (follow p v i d ys).view) s)
-              ∙ ap (λ m. step p (records p u (i + 1) ys).view (get_or (k ∷ l ∷ more) m 0) (get_or (k ∷ l ∷ more) (2 * (c.n + 1) + 1) 0)) two
-              ∙ ap (λ m. step p (records p u (i + 1) ys).view (get_or more (2 * c.n) 0) (get_or (k ∷ l ∷ more) m 0)) three
-              ∙ c.here);
+          at = omega arith;
+          some = omega arith;
+          same = rw (two, s, records) c.same;
+          levels = rw (two, s, records) (ap (λ qs. rule.seen u.shift ∷ qs) c.levels);
+          before = rw (two, s, records) (c.before ∙ ap Ok (omega arith));
+          here = rw (two, three, s, records) c.here;
           fault = c.fault;
         }
-      where
-        longer : (n m : ℕ) → 2 * n ≤ m → 2 * (n + 1) ≤ suc (suc m)
-        longer n m h = omega arith
 
 ready : (bytes : List ℕ) (n : ℕ) → 2 * n ≤ length bytes → refused_capture (take (2 * n) bytes) n ≡ None
 ready bytes n h =
-    let len : length (take (2 * n) bytes) ≡ 2 * n = length-take-le (2 * n) bytes h in
-    ap (λ t. elim t as (λ _. Option Refusal) [ false ↦ Some OddLength | true ↦ elim (ltb n (length (take (2 * n) bytes) / 2)) as (λ _. Option Refusal) [ true ↦ Some ShortAnswers | false ↦ None ] ])
-    (eq-eqb (length (take (2 * n) bytes) % 2) 0 (even (length (take (2 * n) bytes)) n len))
-    ∙ ap (λ t. elim t as (λ _. Option Refusal) [ true ↦ Some ShortAnswers | false ↦ None ]) (le-ltb n (length (take (2 * n) bytes) / 2) (half (length (take (2 * n) bytes)) n len))
-  where
-    even : (m n : ℕ) → m ≡ 2 * n → m % 2 ≡ 0
-    even m n e = omega arith
-
-    half : (m n : ℕ) → m ≡ 2 * n → m / 2 ≤ n
-    half m n e = omega arith
-
-abbrev cut_at : Shape → View → List ℕ → ℕ → Option Refusal → Outcome
-cut_at p v bytes m o = call.unless o v (call.unless (refused_capture (take (2 * m) bytes) m) v (records p v 0 (take (2 * m) bytes)))
-
--- the records ahead of the refused one, on a fit chip
-ahead_is : (p : Shape) (v : View) (bytes : List ℕ) (e : Fault) (c : Stops p v 0 bytes e) → cut_at p v bytes e.«record» None ≡ records p v 0 (take (2 * c.n) bytes)
-ahead_is p v bytes e c =
-    let n : 0 + c.n ≡ c.n = omega arith in
-    ap (λ m. cut_at p v bytes m None) (c.at ∙ n)
-    ∙ ap (λ o. call.unless o v (records p v 0 (take (2 * c.n) bytes))) (ready bytes c.n c.some)
+    let len = length-take-le (2 * n) bytes h in
+    rw (eq-eqb (length (take (2 * n) bytes) % 2) 0 (omega arith), le-ltb n (length (take (2 * n) bytes) / 2) (omega arith), refused_capture)
 
 pub refused_capture_stands : RefusedCaptureStands
 refused_capture_stands p v bytes room e says = by (unfit p v.cells) refl (refused_capture bytes room) refl says
   where
     by : (o : Option Refusal) → unfit p v.cells ≡ o → (o' : Option Refusal) → refused_capture bytes room ≡ o' → (call.unless o v (call.unless o' v (records p v 0 bytes))).says ≡ Err e → RefusedCapture p v bytes room e
-    by (Some r) f o' g q =
-        record {
-          view = ap (λ o. (call.unless o v (call.unless (refused_capture bytes room) v (records p v 0 bytes))).view) f ∙ sym (ap (λ o. (cut_at p v bytes e.«record» o).view) f);
-          levels = ap (λ o. (call.unless o v (call.unless (refused_capture bytes room) v (records p v 0 bytes))).levels) f ∙ sym (ap (λ o. (cut_at p v bytes e.«record» o).levels) f);
-          at = λ n _. absurd (subst IsNone (sym n ∙ f) tt);
-        }
+    by (Some r) f o' g q = record { view = rw (f, called); levels = rw f; at = λ n _. cc }
     by None f (Some r) g q =
-        let whole : outcome p v (capture bytes room) ≡ record { view = v; levels = []; says = Err (raised r 0) } =
-        ap (λ o. call.unless o v (call.unless (refused_capture bytes room) v (records p v 0 bytes))) f ∙ ap (λ o. call.unless o v (records p v 0 bytes)) g in
-        let part : ahead_of p v bytes e ≡ record { view = v; levels = []; says = Ok 0 } =
-        ap (λ o. cut_at p v bytes e.«record» o) f ∙ ap (λ m. cut_at p v bytes m None) (sym (ap fault_record q)) in
-        record {
-          view = ap (λ x. x.view) whole ∙ sym (ap (λ x. x.view) part);
-          levels = ap (λ x. x.levels) whole ∙ sym (ap (λ x. x.levels) part);
-          at = λ _ n. absurd (subst IsNone (sym n ∙ g) tt);
-        }
+        let zero : e.«record» ≡ 0 = cc in
+        record { view = rw (f, g, zero, called); levels = rw (f, g, zero); at = λ _ n. cc }
     by None f None g q =
         let c = stops p bytes v 0 e q in
-        let whole : outcome p v (capture bytes room) ≡ records p v 0 bytes =
-        ap (λ o. call.unless o v (call.unless (refused_capture bytes room) v (records p v 0 bytes))) f ∙ ap (λ o. call.unless o v (records p v 0 bytes)) g in
-        let part : ahead_of p v bytes e ≡ records p v 0 (take (2 * c.n) bytes) = ap (λ o. cut_at p v bytes e.«record» o) f ∙ ahead_is p v bytes e c in
-        let n : c.n ≡ e.«record» = sym (c.at ∙ omega arith) in
+        let n : e.«record» ≡ c.n = omega arith in
+        let fits = ready bytes c.n c.some in
         record {
-          view = ap (λ x. x.view) whole ∙ c.same ∙ sym (ap (λ x. x.view) part);
-          levels = ap (λ x. x.levels) whole ∙ c.levels ∙ sym (ap (λ x. x.levels) part);
-          at = λ _ _. record {
-            before = ap (λ x. x.says) part ∙ c.before ∙ ap Ok (sym c.at);
-            here = ap (λ x. step p x.view (get_or bytes (2 * e.«record») 0) (get_or bytes (2 * e.«record» + 1) 0)) part
-                ∙ sym (ap (λ m. step p (records p v 0 (take (2 * c.n) bytes)).view (get_or bytes (2 * m) 0) (get_or bytes (2 * m + 1) 0)) n) ∙ c.here;
-            fault = c.fault;
-          };
+          view = rw (f, g, n, fits, called) c.same;
+          levels = rw (f, g, n, fits) c.levels;
+          at = λ _ _. record { before = rw (f, n, fits) (c.before ∙ ap Ok (omega arith)); here = rw (f, n, fits) c.here; fault = c.fault };
         }
 
 -- ---- page copies
 
+copied : (v : View) (o o' : Option Refusal) →
+    ((call.unless o v (call.unless o' v (record { view = v; levels = []; says = Ok 256 }))).says ≡ first_of o (first_of o' (Ok 256)))
+    × ((call.unless o v (call.unless o' v (record { view = v; levels = []; says = Ok 256 }))).view ≡ v)
+copied v (Some r) o' = (refl, refl)
+copied v None (Some r) = (refl, refl)
+copied v None None = (refl, refl)
+
 pub copies_stand : CopiesStand
 copies_stand p lw birth h page at room =
     let v = chip_after p birth h in
-    let j = law.journal_after p birth h in
-    let same : unfit p v.cells ≡ unfit p (take (cell_count p) birth) = (cells_stand p lw birth h).fitness in (
-      ap (λ o. (call.unless o v (call.unless (refused_copy p (rule.running v.cycle) page at room) v (record { view = v; levels = []; says = Ok 256 }))).says) same
-          ∙ by (unfit p (take (cell_count p) birth)) refl,
-      stays (unfit p v.cells) (refused_copy p (rule.running v.cycle) page at room),
-    )
+    let o' = refused_copy p (rule.running v.cycle) page at room in
+    (rw (cells_stand p lw birth h).fitness (by (unfit p (take (cell_count p) birth)) refl), (copied v (unfit p v.cells) o').1)
   where
     runs_same : {j : Journal} {v : View} → Tracks p birth j v → rule.running v.cycle ≡ note.cycle_runs j.entries
     runs_same (tracks ft m) = m.run_is
-
-    fit_says_copy : (v : View) (o : Option Refusal) → (call.unless o v (record { view = v; levels = []; says = Ok 256 })).says ≡ first_of o (Ok 256)
-    fit_says_copy v None = refl
-    fit_says_copy v (Some r) = refl
 
     by : (o : Option Refusal) → unfit p (take (cell_count p) birth) ≡ o →
         (call.unless o (chip_after p birth h) (call.unless (refused_copy p (rule.running (chip_after p birth h).cycle) page at room) (chip_after p birth h) (record { view = chip_after p birth h; levels = []; says = Ok 256 }))).says
         ≡ first_of o (first_of (refused_copy p (note.cycle_runs (law.journal_after p birth h).entries) page at room) (Ok 256))
     by (Some r) e = refl
-    by None e =
-        fit_says_copy (chip_after p birth h) (refused_copy p (rule.running (chip_after p birth h).cycle) page at room)
-        ∙ ap (λ r. first_of (refused_copy p r page at room) (Ok 256)) (runs_same (stands p lw birth e h).tie)
-
-    stays : (o o' : Option Refusal) → (call.unless o (chip_after p birth h) (call.unless o' (chip_after p birth h) (record { view = chip_after p birth h; levels = []; says = Ok 256 }))).view ≡ chip_after p birth h
-    stays (Some r) o' = refl
-    stays None (Some r) = refl
-    stays None None = refl
+    by None e = rw (← runs_same (stands p lw birth e h).tie) (copied (chip_after p birth h) None (refused_copy p (rule.running (chip_after p birth h).cycle) page at room)).0

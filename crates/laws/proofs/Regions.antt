@@ -1,7 +1,6 @@
 -- What the bits of a reading stretch come to: the bit of the output byte, its address and its cell.
-use Rattle.std.proofs.Common.{◌≡◌, ℕ, suc, ◌+◌, ◌-◌, ◌/◌, ◌%◌, ◌^◌, ◌<◌, ◌≤◌, Bool, true, false, List, [], ◌∷◌, length, sym, refl, ap, ◌∙◌, inl, inr, mod-eq_of_lt, arith}
-use native.Mathlib.Nat.{mod-add-mod}
-use lib.Pow.{mod-mod-pow}
+use Rattle.std.proofs.Common.{◌≡◌, ℕ, suc, ◌+◌, ◌-◌, ◌/◌, ◌%◌, ◌^◌, ◌<◌, ◌≤◌, Bool, false, List, [], ◌∷◌, length, refl, ap, ◌∙◌, inl, inr, arith}
+use Rattle.std.proofs.Math.Pow.{mod-mod-pow}
 use Rattle.std.proofs.lemmas.Bool.{lt-ltb, le-ltb, cases_lt}
 use Rattle.std.proofs.lemmas.Nat.{mod_below}
 use Rattle.rules.specs.declared.state.Region.{Region}
@@ -13,15 +12,14 @@ use Rattle.rules.specs.Rules.{rolled, latched, place}
 use Rattle.laws.proofs.Bits.{goes_on, rolled_is}
 
 status_from : (ident : ℕ) (bs : List Bool) (k : ℕ) → k < 8 → goes_on ident (Status k) bs ≡ Status ((k + length bs) % 8)
-status_from ident [] k lt = let e : (k + 0) % 8 ≡ k = omega arith in ap Status (sym e)
+status_from ident [] k lt = ap Status (omega arith)
 status_from ident (b ∷ bs) k lt =
     let r : rolled k 7 ≡ (k + 1) % 8 = rolled_is k 7 8 refl lt in
-    let e : (rolled k 7 + length bs) % 8 ≡ (k + suc (length bs)) % 8 = omega arith in
-    status_from ident bs (rolled k 7) (omega arith) ∙ ap Status e
+    status_from ident bs (rolled k 7) (omega arith) ∙ ap Status (omega arith)
 
 -- the bit of the status byte
 pub status_phase : (ident : ℕ) (rest : List Bool) → goes_on ident (Status 0) rest ≡ Status (length rest % 8)
-status_phase ident rest = status_from ident rest 0 (omega arith) ∙ ap (λ n. Status (n % 8)) (let e : 0 + length rest ≡ length rest = omega arith in e)
+status_phase ident rest = status_from ident rest 0 (omega arith) ∙ ap Status (omega arith)
 
 -- the address and the bit of an output byte
 abbrev output_after : Region → (a n : ℕ) → Phase
@@ -29,39 +27,33 @@ output_after r a n = Output r ((a + n / 8) % 4294967296) (n % 8)
 
 output_here : (r : Region) (a k : ℕ) → a < 4294967296 → k < 8 → Output r a k ≡ output_after r a (k + 0)
 output_here r a k small lt =
-    let bit : (k + 0) % 8 ≡ k = omega arith in
-    let none : a + (k + 0) / 8 ≡ a = omega arith in
-    let e : a % 4294967296 ≡ a = mod-eq_of_lt small in
-    sym (ap (λ x. Output r (x % 4294967296) ((k + 0) % 8)) none ∙ (ap (λ x. Output r x ((k + 0) % 8)) e ∙ ap (Output r a) bit))
+    let bit : k ≡ (k + 0) % 8 = omega arith in
+    let address : a ≡ (a + (k + 0) / 8) % 4294967296 = omega arith in
+    cc
 
 output_more : (ident : ℕ) (r : Region) (b : Bool) (a k : ℕ) → k < 7 → latched ident false false b (Output r a k) ≡ Output r a (k + 1)
-output_more ident r b a k lt =
-    ap (λ t. elim t as (λ _. Phase) [ true ↦ Output r a (k + 1) | false ↦ Output r ((a + 1) % 4294967296) 0 ]) (lt-ltb k 7 lt)
+output_more ident r b a k lt = rw (lt-ltb k 7 lt, latched)
 
 output_next : (ident : ℕ) (r : Region) (b : Bool) (a k : ℕ) → 7 ≤ k → latched ident false false b (Output r a k) ≡ Output r ((a + 1) % 4294967296) 0
-output_next ident r b a k ge =
-    ap (λ t. elim t as (λ _. Phase) [ true ↦ Output r a (k + 1) | false ↦ Output r ((a + 1) % 4294967296) 0 ]) (le-ltb k 7 ge)
+output_next ident r b a k ge = rw (le-ltb k 7 ge, latched)
 
 output_from : (ident : ℕ) (r : Region) (bs : List Bool) (a k : ℕ) → a < 4294967296 → k < 8 → goes_on ident (Output r a k) bs ≡ output_after r a (k + length bs)
 output_from ident r [] a k small lt = output_here r a k small lt
 output_from ident r (b ∷ bs) a k small lt =
     elim (cases_lt k 7) [
       | inl l ↦
-          let e : k + 1 + length bs ≡ k + suc (length bs) = omega arith in
-          ap (λ ph. goes_on ident ph bs) (output_more ident r b a k l) ∙ (output_from ident r bs a (k + 1) small (omega arith) ∙ ap (output_after r a) e)
+          ap (λ ph. goes_on ident ph bs) (output_more ident r b a k l)
+          ∙ (output_from ident r bs a (k + 1) small (omega arith) ∙ ap (output_after r a) (omega arith))
       | inr g ↦
-          let k7 : k ≡ 7 = omega arith in
           let bit : (0 + length bs) % 8 ≡ (k + suc (length bs)) % 8 = omega arith in
-          let on : a + 1 + (0 + length bs) / 8 ≡ a + (k + suc (length bs)) / 8 = omega arith in
-          ap (λ ph. goes_on ident ph bs) (output_next ident r b a k g) ∙
-          (output_from ident r bs ((a + 1) % 4294967296) 0 (mod_below (a + 1) 4294967296 (omega arith)) (omega arith) ∙
-          (ap (λ x. Output r x ((0 + length bs) % 8)) (mod-add-mod (a + 1) 4294967296 ((0 + length bs) / 8)) ∙
-          (ap (λ x. Output r (x % 4294967296) ((0 + length bs) % 8)) on ∙ ap (Output r ((a + (k + suc (length bs)) / 8) % 4294967296)) bit)))
+          let address : ((a + 1) % 4294967296 + (0 + length bs) / 8) % 4294967296 ≡ (a + (k + suc (length bs)) / 8) % 4294967296 = omega arith in
+          ap (λ ph. goes_on ident ph bs) (output_next ident r b a k g)
+          ∙ (output_from ident r bs ((a + 1) % 4294967296) 0 (mod_below (a + 1) 4294967296 (omega arith)) (omega arith) ∙ cc)
     ]
 
 pub output_phase : (ident : ℕ) (r : Region) (a : ℕ) (ds : List Bool) → a < 4294967296 →
     goes_on ident (Output r a 0) ds ≡ Output r ((a + length ds / 8) % 4294967296) (length ds % 8)
-output_phase ident r a ds small = output_from ident r ds a 0 small (omega arith) ∙ ap (output_after r a) (let e : 0 + length ds ≡ length ds = omega arith in e)
+output_phase ident r a ds small = output_from ident r ds a 0 small (omega arith) ∙ ap (output_after r a) (omega arith)
 
 -- an address of 32 bits, within what a power of two divides
 mod_within : (n k : ℕ) → k ≤ 32 → n % 4294967296 % 2 ^ k ≡ n % 2 ^ k
@@ -72,8 +64,8 @@ mod_within n k le =
 mod_ident : (p : Shape) → Lawful p → (n : ℕ) → n % 4294967296 % p.ident ≡ n % p.ident
 mod_ident p law n =
     elim law.page [
-      | inl e ↦ ap (λ m. n % 4294967296 % m) e ∙ (mod_within n 7 (omega arith) ∙ sym (ap (λ m. n % m) e))
-      | inr e ↦ ap (λ m. n % 4294967296 % m) e ∙ (mod_within n 8 (omega arith) ∙ sym (ap (λ m. n % m) e))
+      | inl e ↦ rw e (mod_within n 7 (omega arith))
+      | inr e ↦ rw e (mod_within n 8 (omega arith))
     ]
 
 -- the rules' cell of output byte j is the journal's

@@ -1,16 +1,16 @@
 -- Writes put bytes, and lawful ones into the status and the lock cell: so a chip that is born fit stays fit.
-use Rattle.std.proofs.Common.{◌≡◌, ℕ, zero, suc, ◌+◌, ◌-◌, ◌*◌, ◌/◌, ◌%◌, ◌^◌, ◌<◌, ◌≤◌, Bool, true, false, cond, not, ◌&&◌, ◌||◌, leb, List, [], ◌∷◌, ◌++◌, length, get_or, take, drop, set, replicate, Some, None, Option, sym, refl, ap, ◌∙◌, subst, mod-lt, arith, lit<, lit≤, length-set}
-use lib.ListN.{length-replicate}
-use Rattle.std.proofs.lemmas.Bool.{leb-true, eqb-true, and_parts}
+use Rattle.std.proofs.Common.{◌≡◌, ℕ, zero, suc, ◌+◌, ◌-◌, ◌*◌, ◌/◌, ◌%◌, ◌^◌, ◌<◌, ◌≤◌, Bool, true, false, cond, not, ◌&&◌, ◌||◌, leb, List, [], ◌∷◌, ◌++◌, length, get_or, take, drop, set, replicate, Some, None, Option, inl, inr, refl, ap, ◌∙◌, mod-lt, arith, lit<, lit≤, length-set}
+use Rattle.std.proofs.lemmas.Bool.{cases_lt, leb-true, eqb-true, and_parts}
+use Rattle.std.proofs.lemmas.List.{get_or_past, length-replicate}
 use Rattle.std.proofs.lemmas.Nat.{pow_pos, pow-add}
 use Rattle.rules.specs.declared.state.Event.{Event}
-use Rattle.rules.specs.declared.state.Event.TheVariants.{Select, Clock, Data, Protect, Hold, CycleEnd, Power}
+use Rattle.rules.specs.declared.state.Event.TheVariants.{Select, Clock, CycleEnd, Power}
 use Rattle.rules.specs.declared.state.Instruction.{Instruction}
 use Rattle.rules.specs.declared.state.Instruction.TheVariants as name
 use Rattle.rules.specs.Shape.{Shape, Lawful, array_len, ident_at, status_at, lock_at}
 use Rattle.rules.specs.Tables.{kept, named, a10, page_of, or}
-use Rattle.laws.specs.Journal.{Entry, wren_done, wrdi_done, cycle_end, power_cycle, wrote, if_so, put_at, byte_of, number, bytes_in, placed, address, data_bits, wrsr, write, wrid, lid, lists, Noted, unread, noted, closes, Journal, latches, noting, shifts, falls, cell}
-use Rattle.laws.proofs.Bits.{number_lt}
+use Rattle.laws.specs.Journal.{Entry, cycle_end, wrote, if_so, put_at, byte_of, number, bytes_in, placed, address, data_bits, wrsr, write, wrid, lid, lists, Noted, noted, closes, Journal, latches, noting, shifts, falls, cell}
+use Rattle.laws.proofs.Bits.{number_lt, number_below}
 
 -- what may be put at a place
 pub record Sound (p : Shape) (i x : ℕ) : Type 0 where
@@ -19,11 +19,8 @@ pub record Sound (p : Shape) (i x : ℕ) : Type 0 where
   pub lock : i ≡ lock_at p → x ≤ 1
 
 abbrev pub SoundEntry : Shape → Entry → Type 0
-SoundEntry p wren_done = Unit {0}
-SoundEntry p wrdi_done = Unit {0}
-SoundEntry p cycle_end = Unit {0}
-SoundEntry p power_cycle = Unit {0}
 SoundEntry p (wrote place bytes) = (i y : ℕ) → put_at place bytes i ≡ Some y → Sound p i y
+SoundEntry p e = Unit {0}
 
 abbrev pub SoundList : Shape → List Entry → Type 0
 SoundList p [] = Unit {0}
@@ -36,23 +33,9 @@ or_by P (Some y) x f g = f y refl
 -- what holds of birth bytes and of what is put holds of every cell's byte
 pub byte_by : (p : Shape) (P : ℕ → ℕ → Type 0) → ((i x : ℕ) → Sound p i x → P i x) → (birth : List ℕ) → ((i : ℕ) → P i (get_or birth i 0)) → (es : List Entry) → SoundList p es → (i : ℕ) (b : Bool) → P i (byte_of birth i b es)
 byte_by p P k birth g [] s i b = g i
-byte_by p P k birth g (wren_done ∷ es) s i b = byte_by p P k birth g es s.1 i b
-byte_by p P k birth g (wrdi_done ∷ es) s i b = byte_by p P k birth g es s.1 i b
 byte_by p P k birth g (cycle_end ∷ es) s i b = byte_by p P k birth g es s.1 i true
-byte_by p P k birth g (power_cycle ∷ es) s i b = byte_by p P k birth g es s.1 i b
 byte_by p P k birth g (wrote place bytes ∷ es) s i true = or_by (P i) (put_at place bytes i) (byte_of birth i true es) (λ y e. k i y (s.0 i y e)) (byte_by p P k birth g es s.1 i true)
-byte_by p P k birth g (wrote place bytes ∷ es) s i false = byte_by p P k birth g es s.1 i false
-
-abbrev IsSome : Option ℕ → Type 0
-IsSome None = ⊥
-IsSome (Some n) = Unit {0}
-
-none_some : (y : ℕ) → None ≡ Some y → ⊥
-none_some y e = subst IsSome (sym e) tt
-
-abbrev value : Option ℕ → ℕ
-value None = 0
-value (Some n) = n
+byte_by p P k birth g (e ∷ es) s i b = byte_by p P k birth g es s.1 i b
 
 -- a put lies from its place on
 put_in : (place : ℕ) (ps : List (Option ℕ)) (i y : ℕ) → put_at place ps i ≡ Some y → (place ≤ i) × (get_or ps (i - place) None ≡ Some y)
@@ -60,40 +43,28 @@ put_in place ps i y e = at (leb place i) refl e
   where
     at : (t : Bool) → leb place i ≡ t → (elim t as (λ _. Option ℕ) [ true ↦ get_or ps (i - place) None | false ↦ None ]) ≡ Some y → (place ≤ i) × (get_or ps (i - place) None ≡ Some y)
     at true q f = (leb-true place i q, f)
-    at false q f = absurd (none_some y f)
+    at false q f = cc
 
 inside : (ps : List (Option ℕ)) (k y : ℕ) → get_or ps k None ≡ Some y → k < length ps
-inside [] k y e = absurd (none_some y e)
-inside (o ∷ ps) zero y e = omega arith
-inside (o ∷ ps) (suc k) y e = let h = inside ps k y e in omega arith
+inside ps k y e = elim (cases_lt k (length ps)) [ inl lt ↦ lt | inr ge ↦ cc (get_or_past ps k None ge) ]
 
 abbrev Small : List (Option ℕ) → Type 0
 Small ps = (k y : ℕ) → get_or ps k None ≡ Some y → y < 256
 
 set_small : (ps : List (Option ℕ)) (at b : ℕ) → b < 256 → Small ps → Small (set ps at (Some b))
-set_small [] at b h s k y e = absurd (none_some y e)
-set_small (o ∷ ps) zero b h s zero y e = subst (λ n. n < 256) (ap value e) h
-set_small (o ∷ ps) zero b h s (suc k) y e = s (suc k) y e
-set_small (o ∷ ps) (suc at) b h s zero y e = s zero y e
+set_small (o ∷ ps) zero b h s zero y e = let q : b ≡ y = cc in omega arith
 set_small (o ∷ ps) (suc at) b h s (suc k) y e = set_small ps at b h (λ j z q. s (suc j) z q) k y e
+set_small ps at b h s k y e = s k y e
 
 empty_small : (n : ℕ) → Small (replicate n None)
-empty_small zero k y e = absurd (none_some y e)
-empty_small (suc n) zero y e = absurd (none_some y e)
 empty_small (suc n) (suc k) y e = empty_small n k y e
+empty_small n k y e = cc
 
 placed_small : (bs : List Bool) (ps : List (Option ℕ)) (at : ℕ) → Small ps → Small (placed ps at (bytes_in bs))
-placed_small [] ps at s = s
-placed_small (a ∷ []) ps at s = s
-placed_small (a ∷ b ∷ []) ps at s = s
-placed_small (a ∷ b ∷ c ∷ []) ps at s = s
-placed_small (a ∷ b ∷ c ∷ d ∷ []) ps at s = s
-placed_small (a ∷ b ∷ c ∷ d ∷ e ∷ []) ps at s = s
-placed_small (a ∷ b ∷ c ∷ d ∷ e ∷ f ∷ []) ps at s = s
-placed_small (a ∷ b ∷ c ∷ d ∷ e ∷ f ∷ g ∷ []) ps at s = s
 placed_small (a ∷ b ∷ c ∷ d ∷ e ∷ f ∷ g ∷ h ∷ bs) ps at s =
     let byte : List Bool = a ∷ b ∷ c ∷ d ∷ e ∷ f ∷ g ∷ h ∷ [] in
     placed_small bs (set ps at (Some (number byte))) ((at + 1) % length ps) (set_small ps at (number byte) (number_lt byte) s)
+placed_small bs ps at s = s
 
 length_placed : (bs : List ℕ) (ps : List (Option ℕ)) (at : ℕ) → length (placed ps at bs) ≡ length ps
 length_placed [] ps at = refl
@@ -101,61 +72,36 @@ length_placed (b ∷ bs) ps at = length_placed bs (set ps at (Some b)) ((at + 1)
 
 -- a page ends within the array
 page_end : (a n m : ℕ) → n ≡ m * 256 → 0 < n → a % n / 256 * 256 + 256 ≤ n
-page_end a n m e pos =
-    let lt : a % n < n = mod-lt a pos in
-    below_page (a % n) n m e lt
-  where
-    below_page : (x n m : ℕ) → n ≡ m * 256 → x < n → x / 256 * 256 + 256 ≤ n
-    below_page x n m e lt = omega arith
+page_end a n m e pos = let lt : a % n < n = mod-lt a pos in omega arith
 
 array_pages : (p : Shape) → 12 ≤ p.bits → array_len p ≡ 2 ^ (p.bits - 8) * 256
-array_pages p h = ap (λ k. 2 ^ k) (split p.bits h) ∙ pow-add 2 (p.bits - 8) 8
-  where
-    split : (n : ℕ) → 12 ≤ n → n ≡ n - 8 + 8
-    split n h = omega arith
+array_pages p h = let e : p.bits ≡ p.bits - 8 + 8 = omega arith in ap (λ k. 2 ^ k) e ∙ pow-add 2 (p.bits - 8) 8
 
 -- a put of bytes that ends before the status cell
 low_sound : (p : Shape) (place : ℕ) (ps : List (Option ℕ)) → place + length ps ≤ status_at p → Small ps → SoundEntry p (wrote place ps)
 low_sound p place ps end s i y e =
     let q = put_in place ps i y e in
     let lt : i - place < length ps = inside ps (i - place) y q.1 in
-    let le : place ≤ i = q.0 in
-    record { byte = s (i - place) y q.1; status = λ z. absurd (away i place (length ps) (status_at p) lt le end z); lock = λ z. absurd (away_lock p i place (length ps) lt le end z) }
-  where
-    away : (i place n st : ℕ) → i - place < n → place ≤ i → place + n ≤ st → i ≡ st → ⊥
-    away i place n st a b c d = omega arith
-
-    away_lock : (p : Shape) (i place n : ℕ) → i - place < n → place ≤ i → place + n ≤ status_at p → i ≡ lock_at p → ⊥
-    away_lock p i place n a b c d = omega arith
+    record { byte = s (i - place) y q.1; status = λ z. absurd (omega arith); lock = λ z. absurd (omega arith) }
 
 -- a put of one byte
 one_put : (place v i y : ℕ) → put_at place (Some v ∷ []) i ≡ Some y → (i ≡ place) × (v ≡ y)
 one_put place v i y e =
     let q = put_in place (Some v ∷ []) i y e in
     let lt : i - place < 1 = inside (Some v ∷ []) (i - place) y q.1 in
-    let le : place ≤ i = q.0 in
     let z : i - place ≡ 0 = omega arith in
-    (omega arith, ap value (subst (λ k. get_or (Some v ∷ []) k None ≡ Some y) z q.1))
-
-two_cells : (p : Shape) (i : ℕ) → i ≡ status_at p → i ≡ lock_at p → ⊥
-two_cells p i a b = omega arith
-
-kept_kept : (b : ℕ) → b < 256 → (kept b < 256) × (kept (kept b) ≡ kept b)
-kept_kept b h = by (b / 128) (b / 4 % 4) (omega arith) (omega arith)
-  where
-    by : (x y : ℕ) → x < 2 → y < 4 → (x * 128 + y * 4 < 256) × (kept (x * 128 + y * 4) ≡ x * 128 + y * 4)
-    by x y a c = (omega arith, omega arith)
+    let f = rw z at q.1 in
+    (omega arith, cc)
 
 status_sound : (p : Shape) (b : ℕ) → b < 256 → SoundEntry p (wrote (status_at p) (Some (kept b) ∷ []))
 status_sound p b h i y e =
     let q = one_put (status_at p) (kept b) i y e in
-    let f = kept_kept b h in
-    subst (λ z. Sound p i z) q.1 (record { byte = f.0; status = λ _. f.1; lock = λ z. absurd (two_cells p i q.0 z) })
+    rw (← q.1) (record { byte = omega arith; status = λ _. omega arith; lock = λ z. absurd (omega arith) })
 
 lock_sound : (p : Shape) → SoundEntry p (wrote (lock_at p) (Some 1 ∷ []))
 lock_sound p i y e =
     let q = one_put (lock_at p) 1 i y e in
-    subst (λ z. Sound p i z) q.1 (record { byte = lit< tt; status = λ z. absurd (two_cells p i z q.0); lock = λ _. lit≤ tt })
+    rw (← q.1) (record { byte = lit< tt; status = λ z. absurd (omega arith); lock = λ _. lit≤ tt })
 
 if_sound : (p : Shape) (x : Bool) (e : Entry) → (x ≡ true → SoundEntry p e) → SoundList p (if_so x e)
 if_sound p true e f = (f refl, tt)
@@ -166,23 +112,19 @@ module _ (p : Shape) (law : Lawful p) (w : Bool) (st lk : ℕ) where
   write_sound bs =
       let a : ℕ = address bs in
       if_sound p _ _ (λ _. low_sound p (page_of p a) (placed (replicate 256 None) (a % 256) (bytes_in (data_bits bs)))
-      (subst (λ n. page_of p a + n ≤ status_at p) (sym (length_placed (bytes_in (data_bits bs)) (replicate 256 None) (a % 256) ∙ length-replicate {A = Option ℕ} 256 None))
-      (reach (page_of p a) (page_end a (array_len p) (2 ^ (p.bits - 8)) (array_pages p law.low) (pow_pos p.bits))))
+      (omega (arith, length_placed (bytes_in (data_bits bs)) (replicate 256 None) (a % 256), length-replicate {A = Option ℕ} 256 None, page_end a (array_len p) (2 ^ (p.bits - 8)) (array_pages p law.low) (pow_pos p.bits)))
       (placed_small (data_bits bs) (replicate 256 None) (a % 256) (empty_small 256)))
-    where
-      reach : (x : ℕ) → x + 256 ≤ array_len p → x + 256 ≤ status_at p
-      reach x h = omega arith
 
   wrid_sound : (bs : List Bool) → SoundList p (wrid st lk p bs)
   wrid_sound bs =
       let a : ℕ = address bs in
       if_sound p _ _ (λ _. low_sound p (ident_at p) (placed (replicate p.ident None) (a % p.ident) (bytes_in (data_bits bs)))
-      (subst (λ n. ident_at p + n ≤ status_at p) (sym (length_placed (bytes_in (data_bits bs)) (replicate p.ident None) (a % p.ident) ∙ length-replicate {A = Option ℕ} p.ident None)) (omega arith))
+      (omega (arith, length_placed (bytes_in (data_bits bs)) (replicate p.ident None) (a % p.ident), length-replicate {A = Option ℕ} p.ident None))
       (placed_small (data_bits bs) (replicate p.ident None) (a % p.ident) (empty_small p.ident)))
 
   wrsr_sound : (bs : List Bool) → SoundList p (wrsr w st p bs)
   wrsr_sound bs =
-      if_sound p _ _ (λ e. status_sound p (number (drop 8 bs)) (subst (λ n. number (drop 8 bs) < 2 ^ n) (eqb-true (length (drop 8 bs)) 8 (and_parts _ _ e).0) (number_lt (drop 8 bs))))
+      if_sound p _ _ (λ e. let len = eqb-true (length (drop 8 bs)) 8 (and_parts _ _ e).0 in status_sound p (number (drop 8 bs)) (number_below (drop 8 bs) 8 (omega arith)))
 
   lid_sound : (bs : List Bool) → SoundList p (lid st p bs)
   lid_sound bs = if_sound p _ _ (λ _. lock_sound p)
@@ -194,22 +136,14 @@ module _ (p : Shape) (law : Lawful p) (w : Bool) (st lk : ℕ) where
   lists_sound : (wel : Bool) (i : Instruction) (bs : List Bool) → SoundList p (lists p w st lk wel i bs)
   lists_sound wel name.Wren bs = (tt, tt)
   lists_sound wel name.Wrdi bs = (tt, tt)
-  lists_sound wel name.Rdsr bs = tt
-  lists_sound wel name.Read bs = tt
-  lists_sound wel name.RdidRdls bs = tt
-  lists_sound wel name.Rduid bs = tt
-  lists_sound wel name.Unknown bs = tt
   lists_sound true name.Wrsr bs = wrsr_sound bs
-  lists_sound false name.Wrsr bs = tt
   lists_sound true name.Write bs = write_sound bs
-  lists_sound false name.Write bs = tt
   lists_sound true name.WridLid bs = either_sound (a10 (address bs)) bs
-  lists_sound false name.WridLid bs = tt
+  lists_sound wel i bs = tt
 
   closes_sound : (nt : Noted) (bs : List Bool) → SoundList p (closes p w st lk nt bs)
-  closes_sound unread bs = tt
-  closes_sound (noted false wel) bs = tt
   closes_sound (noted true wel) bs = lists_sound wel (named (number (take 8 bs))) bs
+  closes_sound nt bs = tt
 
 append_sound : (p : Shape) (es more : List Entry) → SoundList p es → SoundList p more → SoundList p (es ++ more)
 append_sound p [] more g l = l
@@ -224,20 +158,15 @@ latches_sound p true j g = g
 latches_sound p false j g = g
 
 falls_sound : (p : Shape) (birth : List ℕ) (j : Journal) (t : Bool) (nt : Noted) → SoundList p j.entries → SoundList p (cond t (falls j j.last j.sampled) (shifts p birth j nt)).entries
-falls_sound p birth j true nt g = g
-falls_sound p birth j false unread g = g
-falls_sound p birth j false (noted false wel) g = g
 falls_sound p birth j false (noted true wel) g = g
+falls_sound p birth j t nt g = g
 
 pub noting_sound : (p : Shape) → Lawful p → (birth : List ℕ) (j : Journal) → SoundList p j.entries → (e : Event) → SoundList p (noting p birth j e).entries
 noting_sound p law birth j g (Select true) =
     append_sound p (cond j.held [] (closes p j.w (cell birth j (status_at p)) (cell birth j (lock_at p)) j.note j.bits)) j.entries
     (cond_sound p j.held _ (closes_sound p law j.w (cell birth j (status_at p)) (cell birth j (lock_at p)) j.note j.bits)) g
-noting_sound p law birth j g (Select false) = g
 noting_sound p law birth j g (Clock true) = latches_sound p (not j.s && not j.held) j g
 noting_sound p law birth j g (Clock false) = falls_sound p birth j (j.s || j.held) j.note g
-noting_sound p law birth j g (Data l) = g
-noting_sound p law birth j g (Protect l) = g
-noting_sound p law birth j g (Hold l) = g
 noting_sound p law birth j g CycleEnd = (tt, g)
 noting_sound p law birth j g Power = (tt, g)
+noting_sound p law birth j g e = g

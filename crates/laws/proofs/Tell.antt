@@ -1,33 +1,36 @@
 -- Two chips at rest that answer every list of events alike show the same.
-use Rattle.std.proofs.Common.{◌≡◌, ℕ, zero, suc, ◌+◌, ◌-◌, ◌/◌, ◌%◌, ◌^◌, ◌<◌, ◌≤◌, Bool, true, false, ◌&&◌, T, eqb, ltb, List, [], ◌∷◌, ◌++◌, length, get_or, Some, None, Ok, Err, Option, Result, sym, refl, ap, ◌∙◌, subst, subst₂, inl, inr, mod-eq_of_lt, arith, lit<}
+use Rattle.std.proofs.Common.{◌≡◌, ℕ, zero, suc, ◌+◌, ◌-◌, ◌/◌, ◌%◌, ◌^◌, ◌<◌, ◌≤◌, Bool, true, false, ◌&&◌, T, eqb, ltb, List, [], ◌∷◌, ◌++◌, length, get_or, Some, None, Ok, Option, Result, sym, refl, ap, ◌∙◌, subst, subst₂, inl, inr, mod-eq_of_lt, arith, lit<}
 use Rattle.std.proofs.lemmas.Bool.{cases_eq, cases_lt, eqb-true, ltb-false}
-use Rattle.std.proofs.lemmas.Nat.{shr-shr, pow_below}
+use Rattle.std.proofs.lemmas.Nat.{pow_below}
+use Rattle.std.proofs.lemmas.Nat.Bits.{same_from_bits_below}
 use Rattle.backing.specs.Rows.{Bytes}
 use Rattle.backing.specs.declared.refusal.Refusal.{Refusal}
 use Rattle.backing.specs.declared.refusal.Refusal.TheVariants.{ShortBacking, StatusBits, LockValue}
 use Rattle.backing.specs.declared.fault.Fault.{Fault}
 use Rattle.rules.specs.declared.state.Level.TheVariants.{Float}
+use Rattle.rules.specs.declared.state.Event.TheVariants.{Clock, Data, Protect, Hold}
 use Rattle.rules.specs.declared.state.Region.{Region}
 use Rattle.rules.specs.declared.state.Region.TheVariants as region
 use Rattle.rules.specs.declared.state.Pins.{Pins}
 use Rattle.rules.specs.declared.state.Phase.{Phase}
 use Rattle.rules.specs.declared.state.Phase.TheVariants.{Deselected, Status, Output}
 use Rattle.rules.specs.Shape.{Shape, Lawful, array_len, unique_at, status_at, lock_at, cell_count}
-use Rattle.rules.specs.Tables.{level_number, level_of, bit_of, kept, unfit, status_byte, decoded}
-use Rattle.rules.specs.Rules.{View, step, after, answer, at_rest, place}
-use Rattle.laws.specs.Laws.{Action, send, as_number, of_bytes, Alike}
+use Rattle.rules.specs.Tables.{there, level_number, level_of, bit_of, kept, unfit, status_byte, decoded}
+use Rattle.rules.specs.Rules.{View, moved, unless, step, after, answer, at_rest, place}
+use Rattle.laws.specs.Laws.{Action, send, as_number, of_bytes, AtRest, Alike}
+use Rattle.laws.proofs.Bits.{ident_size}
 use Rattle.laws.proofs.Plain.{calm, all_calm, plain, PlainlyAlike, alike_plainly}
 
 -- ---- views, and lists of events
 
-abbrev pub levels : Bool → Bool → Bool → Bool → Pins
+abbrev levels : Bool → Bool → Bool → Bool → Pins
 levels c d w h = record { clock = c; input = d; protect = w; hold = h }
 
-abbrev pub rest : Bool → Bool → Bool → Bool → Bool → List ℕ → View
+abbrev rest : Bool → Bool → Bool → Bool → Bool → List ℕ → View
 rest c d w h wel cells = record { pins = levels c d w h; wel = wel; cycle = None; stretch = Deselected; shift = at_rest; cells = cells }
 
 -- C low, HOLD high, D at d; bit k of byte b has been shifted out
-abbrev pub putting : (d w wel : Bool) (cells : List ℕ) (b k : ℕ) → Phase → View
+abbrev putting : (d w wel : Bool) (cells : List ℕ) (b k : ℕ) → Phase → View
 putting d w wel cells b k ph =
     record {
       pins = levels false d w true;
@@ -38,37 +41,37 @@ putting d w wel cells b k ph =
       cells = cells;
     }
 
-abbrev pub go : Shape → View → List Action → View
+abbrev go : Shape → View → List Action → View
 go p v [] = v
 go p v (send k l ∷ more) = go p (after v (step p v k l)) more
 
 -- bits of a byte, the highest first, in front of more
-abbrev pub bits_on : ℕ → ℕ → List ℕ → List ℕ
+abbrev bits_on : ℕ → ℕ → List ℕ → List ℕ
 bits_on zero b more = more
 bits_on (suc k) b more = (b / 2 ^ k % 2) ∷ bits_on k b more
 
-abbrev pub bits_of : List ℕ → List ℕ
+abbrev bits_of : List ℕ → List ℕ
 bits_of [] = []
 bits_of (b ∷ bs) = bits_on 8 b (bits_of bs)
 
 -- one bit in: D, a rise of C, a fall of C
-abbrev pub clocked : List ℕ → List Action
+abbrev clocked : List ℕ → List Action
 clocked [] = []
 clocked (b ∷ bs) = send 2 b ∷ (send 1 1 ∷ (send 1 0 ∷ clocked bs))
 
 -- a command of these bytes, from rest: C low, HOLD high, S low, the bits
-abbrev pub opens : List ℕ → List Action
+abbrev opens : List ℕ → List Action
 opens bytes = send 1 0 ∷ (send 4 1 ∷ (send 0 0 ∷ clocked (bits_of bytes)))
 
-abbrev pub clk : ℕ → List Action
+abbrev clk : ℕ → List Action
 clk zero = []
 clk (suc n) = send 1 1 ∷ (send 1 0 ∷ clk n)
 
-abbrev pub rounds : ℕ → List Action
+abbrev rounds : ℕ → List Action
 rounds zero = []
 rounds (suc n) = rounds n ++ clk 8
 
-abbrev pub said : Shape → View → ℕ → ℕ → Result ℕ Fault
+abbrev said : Shape → View → ℕ → ℕ → Result ℕ Fault
 said p v k l = as_number (answer (step p v k l))
 
 three : (P : Bool → Bool → Bool → Type 0) → P true true true → P true true false → P true false true → P true false false → P false true true → P false true false → P false false true → P false false false → (a b c : Bool) → P a b c
@@ -82,7 +85,7 @@ three P a b c d e f g h false false true = g
 three P a b c d e f g h false false false = h
 
 -- byte at address a of a region is being read, bit k is out
-abbrev pub reading : (p : Shape) (w wel : Bool) (cells : List ℕ) (r : Region) (a k : ℕ) → View
+abbrev reading : (p : Shape) (w wel : Bool) (cells : List ℕ) (r : Region) (a k : ℕ) → View
 reading p w wel cells r a k = putting false w wel cells (get_or cells (place p r a) 0) k (Output r a k)
 
 go_append : (p : Shape) (v : View) (xs ys : List Action) → go p v (xs ++ ys) ≡ go p (go p v xs) ys
@@ -96,7 +99,7 @@ last_said p (send a b ∷ es) k l u v h = last_said p es k l (after u (step p u 
 
 -- ---- lists of bytes that end no cycle
 
-abbrev pub Fine : List Action → Type 0
+abbrev Fine : List Action → Type 0
 Fine xs = T (of_bytes xs) × T (all_calm xs)
 
 keep : (a x y : Bool) → T (a && x) → (T x → T y) → T (a && y)
@@ -123,72 +126,44 @@ fine_rounds zero = (tt, tt)
 fine_rounds (suc n) = fine_append (rounds n) (clk 8) (fine_rounds n) (tt, tt)
 
 -- one event after others, by both
-pub says_alike : (p : Shape) (u v : View) → PlainlyAlike p u v → (es : List Action) → Fine es → said p (go p u es) 1 1 ≡ said p (go p v es) 1 1
+says_alike : (p : Shape) (u v : View) → PlainlyAlike p u v → (es : List Action) → Fine es → said p (go p u es) 1 1 ≡ said p (go p v es) 1 1
 says_alike p u v al es f =
     let g : Fine (es ++ (send 1 1 ∷ [])) = fine_append es (send 1 1 ∷ []) f (tt, tt) in
     last_said p es 1 1 u v (al (es ++ (send 1 1 ∷ [])) g.0 g.1)
 
 -- ---- bits
 
-half_same : (x y m n : ℕ) → x / 2 ≡ m → y / 2 ≡ n → m ≡ n → x % 2 ≡ y % 2 → x ≡ y
-half_same x y m n p q r e = omega arith
-
 byte_from_bits : (a b : ℕ) → a < 256 → b < 256 → ((k : ℕ) → k < 8 → bit_of a k ≡ bit_of b k) → a ≡ b
 byte_from_bits a b ha hb f =
-    let s8 : a / 256 ≡ b / 256 = omega arith in
-    let s7 : a / 128 ≡ b / 128 = half_same (a / 128) (b / 128) (a / 256) (b / 256) (shr-shr a 7 1) (shr-shr b 7 1) s8 (f 0 (lit< tt)) in
-    let s6 : a / 64 ≡ b / 64 = half_same (a / 64) (b / 64) (a / 128) (b / 128) (shr-shr a 6 1) (shr-shr b 6 1) s7 (f 1 (lit< tt)) in
-    let s5 : a / 32 ≡ b / 32 = half_same (a / 32) (b / 32) (a / 64) (b / 64) (shr-shr a 5 1) (shr-shr b 5 1) s6 (f 2 (lit< tt)) in
-    let s4 : a / 16 ≡ b / 16 = half_same (a / 16) (b / 16) (a / 32) (b / 32) (shr-shr a 4 1) (shr-shr b 4 1) s5 (f 3 (lit< tt)) in
-    let s3 : a / 8 ≡ b / 8 = half_same (a / 8) (b / 8) (a / 16) (b / 16) (shr-shr a 3 1) (shr-shr b 3 1) s4 (f 4 (lit< tt)) in
-    let s2 : a / 4 ≡ b / 4 = half_same (a / 4) (b / 4) (a / 8) (b / 8) (shr-shr a 2 1) (shr-shr b 2 1) s3 (f 5 (lit< tt)) in
-    let s1 : a / 2 ≡ b / 2 = half_same (a / 2) (b / 2) (a / 4) (b / 4) (shr-shr a 1 1) (shr-shr b 1 1) s2 (f 6 (lit< tt)) in
-    let e7 : a / 1 % 2 ≡ b / 1 % 2 = f 7 (lit< tt) in
-    let o : (x : ℕ) → x / 1 ≡ x = λ x. omega arith in
-    half_same a b (a / 2) (b / 2) refl refl s1 (ap (λ x. x % 2) (sym (o a)) ∙ (e7 ∙ ap (λ x. x % 2) (o b)))
-
-abbrev IsValue : Result ℕ Fault → Type 0
-IsValue (Ok n) = Unit {0}
-IsValue (Err e) = ⊥
-
-abbrev un_ok : Result ℕ Fault → ℕ
-un_ok (Ok n) = n
-un_ok (Err e) = 0
+    same_from_bits_below 8 a b ha hb (λ i h. let e : 7 - (7 - i) ≡ i = omega arith in subst (λ n. a / 2 ^ n % 2 ≡ b / 2 ^ n % 2) e (f (7 - i) (omega arith)))
 
 -- a bit by the level that shows it
 level_bit : (x : ℕ) → x < 2 → level_number (level_of x) ≡ x
 level_bit zero lt = refl
 level_bit (suc zero) lt = refl
-level_bit (suc (suc x)) lt = absurd (let z : ⊥ = omega arith in z)
+level_bit (suc (suc x)) lt = absurd (omega arith)
 
 same_bit : (x y : ℕ) → level_number (level_of (x % 2)) ≡ level_number (level_of (y % 2)) → x % 2 ≡ y % 2
 same_bit x y e = sym (level_bit (x % 2) (omega arith)) ∙ (e ∙ level_bit (y % 2) (omega arith))
 
-below_8 : (P : ℕ → Type 0) → P 0 → P 1 → P 2 → P 3 → P 4 → P 5 → P 6 → P 7 → (k : ℕ) → k < 8 → P k
-below_8 P a b c d e f g h zero lt = a
-below_8 P a b c d e f g h (suc zero) lt = b
-below_8 P a b c d e f g h (suc (suc zero)) lt = c
-below_8 P a b c d e f g h (suc (suc (suc zero))) lt = d
-below_8 P a b c d e f g h (suc (suc (suc (suc zero)))) lt = e
-below_8 P a b c d e f g h (suc (suc (suc (suc (suc zero))))) lt = f
-below_8 P a b c d e f g h (suc (suc (suc (suc (suc (suc zero)))))) lt = g
-below_8 P a b c d e f g h (suc (suc (suc (suc (suc (suc (suc zero))))))) lt = h
-below_8 P a b c d e f g h (suc (suc (suc (suc (suc (suc (suc (suc k)))))))) lt = absurd (let z : ⊥ = omega arith in z)
+below_7 : (P : ℕ → Type 0) → P 0 → P 1 → P 2 → P 3 → P 4 → P 5 → P 6 → (k : ℕ) → k < 7 → P k
+below_7 P a b c d e f g zero lt = a
+below_7 P a b c d e f g (suc zero) lt = b
+below_7 P a b c d e f g (suc (suc zero)) lt = c
+below_7 P a b c d e f g (suc (suc (suc zero))) lt = d
+below_7 P a b c d e f g (suc (suc (suc (suc zero)))) lt = e
+below_7 P a b c d e f g (suc (suc (suc (suc (suc zero))))) lt = f
+below_7 P a b c d e f g (suc (suc (suc (suc (suc (suc zero)))))) lt = g
+below_7 P a b c d e f g (suc (suc (suc (suc (suc (suc (suc k))))))) lt = absurd (omega arith)
 
 -- a byte by the levels at its bits
 byte_from_levels : (a b : ℕ) → a < 256 → b < 256 → ((k : ℕ) → k < 8 → level_number (level_of (bit_of a k)) ≡ level_number (level_of (bit_of b k))) → a ≡ b
 byte_from_levels a b ha hb f = byte_from_bits a b ha hb (λ k h. same_bit (a / 2 ^ (7 - k)) (b / 2 ^ (7 - k)) (f k h))
 
--- what is said at a rise of C while a bit is out
-says_bit : (p : Shape) (d w wel : Bool) (cells : List ℕ) (b k : ℕ) (ph : Phase) →
-    said p (putting d w wel cells b k ph) 1 1 ≡ Ok (level_number (level_of (bit_of b k)))
-says_bit p d w wel cells b k ph = refl
-
 -- clocks, of which each is one turn of f
-clocks_by : (p : Shape) (f : ℕ → View) → ((k : ℕ) → k < 7 → go p (f k) (clk 1) ≡ f (suc k)) → (k n : ℕ) → k + n < 8 → go p (f k) (clk n) ≡ f (k + n)
-clocks_by p f t k zero h = ap f (omega arith)
-clocks_by p f t k (suc n) h =
-    ap (λ v. go p v (clk n)) (t k (omega arith)) ∙ (clocks_by p f t (suc k) n (omega arith) ∙ ap f (omega arith))
+clocks_by : (p : Shape) (f : ℕ → View) → ((k : ℕ) → k < 7 → go p (f k) (clk 1) ≡ f (suc k)) → (k n m : ℕ) → k + n ≡ m → m < 8 → go p (f k) (clk n) ≡ f m
+clocks_by p f t k zero m e h = ap f (omega arith)
+clocks_by p f t k (suc n) m e h = ap (λ v. go p v (clk n)) (t k (omega arith)) ∙ clocks_by p f t (suc k) n m (omega arith) h
 
 -- ---- a region, read byte by byte
 
@@ -197,24 +172,19 @@ module _ (p : Shape) (w wel : Bool) (cells : List ℕ) (r : Region) (a : ℕ) wh
   Ticks k = go p (reading p w wel cells r a k) (clk 1) ≡ reading p w wel cells r a (suc k)
 
   ticks : (k : ℕ) → k < 7 → Ticks k
-  ticks k h = below_8 (λ j. j < 7 → Ticks j) (λ _. refl) (λ _. refl) (λ _. refl) (λ _. refl) (λ _. refl) (λ _. refl) (λ _. refl) (λ l. absurd (let z : ⊥ = omega arith in z)) k (omega arith) h
+  ticks = below_7 Ticks refl refl refl refl refl refl refl
 
   at_bit : (k : ℕ) → k < 8 → go p (reading p w wel cells r a 0) (clk k) ≡ reading p w wel cells r a k
-  at_bit k h = clocks_by p (reading p w wel cells r a) ticks 0 k (omega arith) ∙ ap (reading p w wel cells r a) (omega arith)
-
-  last_tick : go p (reading p w wel cells r a 7) (clk 1) ≡ reading p w wel cells r ((a + 1) % 4294967296) 0
-  last_tick = refl
+  at_bit k h = clocks_by p (reading p w wel cells r a) ticks 0 k k (omega arith) h
 
   round : go p (reading p w wel cells r a 0) (clk 8) ≡ reading p w wel cells r ((a + 1) % 4294967296) 0
-  round = go_append p (reading p w wel cells r a 0) (clk 7) (clk 1) ∙ (ap (λ v. go p v (clk 1)) (at_bit 7 (lit< tt)) ∙ last_tick)
+  round = go_append p (reading p w wel cells r a 0) (clk 7) (clk 1) ∙ ap (λ v. go p v (clk 1)) (at_bit 7 (lit< tt))
 
 -- after i bytes, the next is i on
 at_byte : (p : Shape) (w wel : Bool) (cells : List ℕ) (r : Region) (a i : ℕ) → a + i < 4294967296 → go p (reading p w wel cells r a 0) (rounds i) ≡ reading p w wel cells r (a + i) 0
 at_byte p w wel cells r a zero h = ap (λ n. reading p w wel cells r n 0) (omega arith)
 at_byte p w wel cells r a (suc i) h =
-    let lt : a + i + 1 < 4294967296 = omega arith in
-    let s : a + i + 1 ≡ a + suc i = omega arith in
-    let e : (a + i + 1) % 4294967296 ≡ a + suc i = mod-eq_of_lt lt ∙ s in
+    let e : (a + i + 1) % 4294967296 ≡ a + suc i = omega arith in
     go_append p (reading p w wel cells r a 0) (rounds i) (clk 8) ∙
     (ap (λ v. go p v (clk 8)) (at_byte p w wel cells r a i (omega arith)) ∙
     (round p w wel cells r (a + i) ∙ ap (λ n. reading p w wel cells r n 0) e))
@@ -225,18 +195,13 @@ module _ (p : Shape) (w wel wel' : Bool) (cells cells' : List ℕ) (r : Region) 
   comes : (x : View) (wl : Bool) (cs : List ℕ) → go p x cmd ≡ reading p w wl cs r a 0 → (i k : ℕ) → a + i < 4294967296 → k < 8 →
       said p (go p x (cmd ++ (rounds i ++ clk k))) 1 1 ≡ Ok (level_number (level_of (bit_of (get_or cs (place p r (a + i)) 0) k)))
   comes x wl cs o i k hi hk =
-      let e1 = go_append p x cmd (rounds i ++ clk k) in
-      let e2 = go_append p (go p x cmd) (rounds i) (clk k) in
-      let e3 = ap (λ y. go p (go p y (rounds i)) (clk k)) o in
-      let e4 = ap (λ y. go p y (clk k)) (at_byte p w wl cs r a i hi) in
-      let e5 = at_bit p w wl cs r (a + i) k hk in
-      ap (λ y. said p y 1 1) (e1 ∙ (e2 ∙ (e3 ∙ (e4 ∙ e5)))) ∙ says_bit p false w wl cs (get_or cs (place p r (a + i)) 0) k (Output r (a + i) k)
+      rw (go_append p x cmd (rounds i ++ clk k), go_append p (go p x cmd) (rounds i) (clk k), o, at_byte p w wl cs r a i hi, at_bit p w wl cs r (a + i) k hk)
 
   levels_alike : (i : ℕ) → a + i < 4294967296 → (k : ℕ) → k < 8 →
       level_number (level_of (bit_of (get_or cells (place p r (a + i)) 0) k)) ≡ level_number (level_of (bit_of (get_or cells' (place p r (a + i)) 0) k))
   levels_alike i hi k hk =
       let f : Fine (cmd ++ (rounds i ++ clk k)) = fine_append cmd (rounds i ++ clk k) fine (fine_append (rounds i) (clk k) (fine_rounds i) (fine_clk k)) in
-      ap un_ok (sym (comes u wel cells ou i k hi hk) ∙ (says_alike p u v al (cmd ++ (rounds i ++ clk k)) f ∙ comes v wel' cells' ov i k hi hk))
+      cc (comes u wel cells ou i k hi hk, says_alike p u v al (cmd ++ (rounds i ++ clk k)) f, comes v wel' cells' ov i k hi hk)
 
   bytes_alike : Bytes cells → Bytes cells' → (i : ℕ) → a + i < 4294967296 → get_or cells (place p r (a + i)) 0 ≡ get_or cells' (place p r (a + i)) 0
   bytes_alike b b' i hi = byte_from_levels (get_or cells (place p r (a + i)) 0) (get_or cells' (place p r (a + i)) 0) (b (place p r (a + i))) (b' (place p r (a + i))) (levels_alike i hi)
@@ -244,10 +209,10 @@ module _ (p : Shape) (w wel wel' : Bool) (cells cells' : List ℕ) (r : Region) 
 -- ---- commands
 
 -- RDSR: bit k of the status byte is out
-abbrev pub status_now : (p : Shape) (wel : Bool) (cells : List ℕ) → ℕ
+abbrev status_now : (p : Shape) (wel : Bool) (cells : List ℕ) → ℕ
 status_now p wel cells = status_byte (get_or cells (status_at p) 0) wel false
 
-abbrev pub asking : (p : Shape) (w wel : Bool) (cells : List ℕ) (k : ℕ) → View
+abbrev asking : (p : Shape) (w wel : Bool) (cells : List ℕ) (k : ℕ) → View
 asking p w wel cells k = putting true w wel cells (status_now p wel cells) k (Status k)
 
 module _ (p : Shape) (w wel : Bool) (cells : List ℕ) where
@@ -287,32 +252,26 @@ module _ (p : Shape) (w wel : Bool) (cells : List ℕ) where
   leads : (c d h : Bool) → Leads c d h
   leads = three Leads refl refl refl refl refl refl refl refl
 
-  last_fall : go p asked (send 1 0 ∷ []) ≡ asking p w wel cells 0
-  last_fall = refl
-
   status_opens : (c d h : Bool) → Opens (5 ∷ []) (asking p w wel cells 0) c d h
-  status_opens c d h = go_append p (rest c d w h wel cells) asks_so_far (send 1 0 ∷ []) ∙ (ap (λ y. go p y (send 1 0 ∷ [])) (leads c d h) ∙ last_fall)
+  status_opens c d h = go_append p (rest c d w h wel cells) asks_so_far (send 1 0 ∷ []) ∙ ap (λ y. go p y (send 1 0 ∷ [])) (leads c d h)
 
   abbrev Asks : ℕ → Type 0
   Asks k = go p (asking p w wel cells k) (clk 1) ≡ asking p w wel cells (suc k)
 
   asks : (k : ℕ) → k < 7 → Asks k
-  asks k h = below_8 (λ j. j < 7 → Asks j) (λ _. refl) (λ _. refl) (λ _. refl) (λ _. refl) (λ _. refl) (λ _. refl) (λ _. refl) (λ l. absurd (let z : ⊥ = omega arith in z)) k (omega arith) h
+  asks = below_7 Asks refl refl refl refl refl refl refl
 
   at_status : (k : ℕ) → k < 8 → go p (asking p w wel cells 0) (clk k) ≡ asking p w wel cells k
-  at_status k h = clocks_by p (asking p w wel cells) asks 0 k (omega arith) ∙ ap (asking p w wel cells) (omega arith)
+  at_status k h = clocks_by p (asking p w wel cells) asks 0 k k (omega arith) h
 
   status_comes : (c d h : Bool) (k : ℕ) → k < 8 → said p (go p (rest c d w h wel cells) (opens (5 ∷ []) ++ clk k)) 1 1 ≡ Ok (level_number (level_of (bit_of (status_now p wel cells) k)))
   status_comes c d h k lt =
       ap (λ y. said p y 1 1) (go_append p (rest c d w h wel cells) (opens (5 ∷ [])) (clk k) ∙ (ap (λ y. go p y (clk k)) (status_opens c d h) ∙ at_status k lt))
-      ∙ says_bit p true w wel cells (status_now p wel cells) k (Status k)
 
 status_alike : (p : Shape) (c d w h wel wel' : Bool) (cells cells' : List ℕ) → PlainlyAlike p (rest c d w h wel cells) (rest c d w h wel' cells') → (k : ℕ) → k < 8 →
     level_number (level_of (bit_of (status_now p wel cells) k)) ≡ level_number (level_of (bit_of (status_now p wel' cells') k))
 status_alike p c d w h wel wel' cells cells' al k lt =
-    ap un_ok (sym (status_comes p w wel cells c d h k lt) ∙
-    (says_alike p (rest c d w h wel cells) (rest c d w h wel' cells') al (opens (5 ∷ []) ++ clk k) (fine_append (opens (5 ∷ [])) (clk k) (tt, tt) (fine_clk k)) ∙
-    status_comes p w wel' cells' c d h k lt))
+    cc (status_comes p w wel cells c d h k lt, says_alike p (rest c d w h wel cells) (rest c d w h wel' cells') al (opens (5 ∷ []) ++ clk k) (fine_append (opens (5 ∷ [])) (clk k) (tt, tt) (fine_clk k)), status_comes p w wel' cells' c d h k lt)
 
 -- the byte of a fit chip's status cell, with its latch
 small : (s : ℕ) (wel : Bool) → s < 256 → kept s ≡ s → status_byte s wel false < 256
@@ -322,8 +281,7 @@ small s false h e = omega arith
 apart : (s t : ℕ) (a b : Bool) → kept s ≡ s → kept t ≡ t → status_byte s a false ≡ status_byte t b false → (a ≡ b) × (s ≡ t)
 apart s t true true e f q = (refl, omega arith)
 apart s t false false e f q = (refl, omega arith)
-apart s t true false e f q = absurd (let z : ⊥ = omega arith in z)
-apart s t false true e f q = absurd (let z : ⊥ = omega arith in z)
+apart s t a b e f q = absurd (omega arith)
 
 -- ---- fitness
 
@@ -339,21 +297,15 @@ fitting a b c =
           ]
     ]
 
-abbrev IsNone : Option Refusal → Type 0
-IsNone None = Unit {0}
-IsNone (Some r) = ⊥
-
-fit_parts : (a b c : Bool) → IsNone (fitting a b c) → (a ≡ false) × (b ≡ true) × (c ≡ false)
-fit_parts true b c e = absurd e
-fit_parts false false c e = absurd e
-fit_parts false true true e = absurd e
+fit_parts : (a b c : Bool) → fitting a b c ≡ None → (a ≡ false) × (b ≡ true) × (c ≡ false)
 fit_parts false true false e = (refl, refl, refl)
+fit_parts a b c e = cc
 
 module _ (p : Shape) (cells : List ℕ) (fit : unfit p cells ≡ None) where
   all_parts : (ltb (length cells) (cell_count p) ≡ false) × (eqb (kept (get_or cells (status_at p) 0)) (get_or cells (status_at p) 0) ≡ true) × (ltb 1 (get_or cells (lock_at p) 0) ≡ false)
   all_parts =
       fit_parts (ltb (length cells) (cell_count p)) (eqb (kept (get_or cells (status_at p) 0)) (get_or cells (status_at p) 0)) (ltb 1 (get_or cells (lock_at p) 0))
-      (subst IsNone (sym fit) tt)
+      fit
 
   pub fit_length : cell_count p ≤ length cells
   fit_length = ltb-false (length cells) (cell_count p) all_parts.0
@@ -364,62 +316,21 @@ module _ (p : Shape) (cells : List ℕ) (fit : unfit p cells ≡ None) where
   pub fit_lock : get_or cells (lock_at p) 0 ≤ 1
   fit_lock = ltb-false 1 (get_or cells (lock_at p) 0) all_parts.2
 
--- ---- the levels: an event to the level that a pin has is refused
-
-module _ (p : Shape) (wel wel' : Bool) (cells cells' : List ℕ) where
-  abbrev Says : ℕ → Pins → Pins → Type 0
-  Says k x y =
-      said p (rest x.clock x.input x.protect x.hold wel cells) k 1 ≡ said p (rest y.clock y.input y.protect y.hold wel' cells') k 1
-
-  same_clock : (c c' d d' w w' h h' : Bool) → Says 1 (levels c d w h) (levels c' d' w' h') → c ≡ c'
-  same_clock true true d d' w w' h h' e = refl
-  same_clock true false d d' w w' h h' e = absurd (subst IsValue (sym e) tt)
-  same_clock false true d d' w w' h h' e = absurd (subst IsValue e tt)
-  same_clock false false d d' w w' h h' e = refl
-
-  same_input : (c c' d d' w w' h h' : Bool) → Says 2 (levels c d w h) (levels c' d' w' h') → d ≡ d'
-  same_input c c' true true w w' h h' e = refl
-  same_input c c' true false w w' h h' e = absurd (subst IsValue (sym e) tt)
-  same_input c c' false true w w' h h' e = absurd (subst IsValue e tt)
-  same_input c c' false false w w' h h' e = refl
-
-  same_protect : (c c' d d' w w' h h' : Bool) → Says 3 (levels c d w h) (levels c' d' w' h') → w ≡ w'
-  same_protect c c' d d' true true h h' e = refl
-  same_protect c c' d d' true false h h' e = absurd (subst IsValue (sym e) tt)
-  same_protect c c' d d' false true h h' e = absurd (subst IsValue e tt)
-  same_protect c c' d d' false false h h' e = refl
-
-  same_hold : (c c' d d' w w' h h' : Bool) → Says 4 (levels c d w h) (levels c' d' w' h') → h ≡ h'
-  same_hold c c' d d' w w' true true e = refl
-  same_hold c c' d d' w w' true false e = absurd (subst IsValue (sym e) tt)
-  same_hold c c' d d' w w' false true e = absurd (subst IsValue e tt)
-  same_hold c c' d d' w w' false false e = refl
+-- an event to the level that a pin has is refused, and no other is
+same_pin : (a b : Bool) (u v : View) → as_number (answer (unless (there a true) u)) ≡ as_number (answer (unless (there b true) v)) → a ≡ b
+same_pin true true u v e = refl
+same_pin false false u v e = refl
+same_pin a b u v e = cc
 
 -- ---- cells, with the same levels
 
-in_range : (b : ℕ) → b ≤ 18 → 2 ^ b < 4294967296
-in_range b h = pow_below b 32 (omega arith)
-
-few_ident : (p : Shape) → Lawful p → (0 < p.ident) × (p.ident ≤ 256)
-few_ident p law = elim law.page [ inl e ↦ (omega arith, omega arith) | inr e ↦ (omega arith, omega arith) ]
-
--- what a region's place is, from its first on
-array_place : (p : Shape) (i : ℕ) → i < array_len p → place p region.Array (0 + i) ≡ i
-array_place p i h = let e : 0 + i ≡ i = omega arith in ap (λ n. n % array_len p) e ∙ mod-eq_of_lt h
-
-ident_place : (p : Shape) (i : ℕ) → i < p.ident → place p region.Ident (0 + i) ≡ array_len p + i
-ident_place p i h = let e : 0 + i ≡ i = omega arith in ap (λ n. array_len p + n) (ap (λ n. n % p.ident) e ∙ mod-eq_of_lt h)
-
-unique_place : (p : Shape) (i : ℕ) → i < 16 → place p region.Unique (0 + i) ≡ unique_at p + i
-unique_place p i h = let e : 0 + i ≡ i = omega arith in ap (λ n. unique_at p + n) (ap (λ n. n % 16) e ∙ mod-eq_of_lt h)
-
--- the last place
-lastly : (n i : ℕ) → i < n + 18 → n + 16 ≤ i → (i ≡ n + 16 → ⊥) → n + 17 ≡ i
-lastly n i a b f = omega arith
+-- a byte of a region from its first on
+first_turn : (n i : ℕ) → i < n → (0 + i) % n ≡ i
+first_turn n i h = let e : 0 + i ≡ i = omega arith in rw e (mod-eq_of_lt h)
 
 module _ (p : Shape) (law : Lawful p) (c d w h wel wel' : Bool) (cells cells' : List ℕ)
     (ok : Bytes cells) (ok' : Bytes cells') (al : PlainlyAlike p (rest c d w h wel cells) (rest c d w h wel' cells')) where
-  abbrev pub At : ℕ → Type 0
+  abbrev At : ℕ → Type 0
   At i = get_or cells i 0 ≡ get_or cells' i 0
 
   region_alike : (r : Region) (a : ℕ) (cmd : List ℕ) → ((wl : Bool) (cs : List ℕ) → go p (rest c d w h wl cs) (opens cmd) ≡ reading p w wl cs r a 0) → Fine (opens cmd) → (i : ℕ) → a + i < 4294967296 → At (place p r (a + i))
@@ -428,16 +339,16 @@ module _ (p : Shape) (law : Lawful p) (c d w h wel wel' : Bool) (cells cells' : 
 
   in_array : (i : ℕ) → i < array_len p → At i
   in_array i lt =
-      let big : 2 ^ p.bits < 4294967296 = in_range p.bits law.high in
-      subst At (array_place p i lt) (region_alike region.Array 0 (3 ∷ 0 ∷ 0 ∷ 0 ∷ []) (λ wl cs. read_opens p w wl cs c d h) (tt, tt) i (omega arith))
+      let big : 2 ^ p.bits < 4294967296 = pow_below p.bits 32 (omega arith) in
+      rw (first_turn (array_len p) i lt) at (region_alike region.Array 0 (3 ∷ 0 ∷ 0 ∷ 0 ∷ []) (λ wl cs. read_opens p w wl cs c d h) (tt, tt) i (omega arith))
 
   in_ident : (i : ℕ) → i < p.ident → At (array_len p + i)
   in_ident i lt =
-      let few = few_ident p law in
-      subst At (ident_place p i lt) (region_alike region.Ident 0 (131 ∷ 0 ∷ 0 ∷ 0 ∷ []) (λ wl cs. ident_opens p w wl cs c d h) (tt, tt) i (omega arith))
+      let few = ident_size p law in
+      rw (first_turn p.ident i lt) at (region_alike region.Ident 0 (131 ∷ 0 ∷ 0 ∷ 0 ∷ []) (λ wl cs. ident_opens p w wl cs c d h) (tt, tt) i (omega arith))
 
   in_unique : (i : ℕ) → i < 16 → At (unique_at p + i)
-  in_unique i lt = subst At (unique_place p i lt) (region_alike region.Unique 0 (129 ∷ 0 ∷ 0 ∷ 0 ∷ []) (λ wl cs. unique_opens p w wl cs c d h) (tt, tt) i (omega arith))
+  in_unique i lt = rw (first_turn 16 i lt) at (region_alike region.Unique 0 (129 ∷ 0 ∷ 0 ∷ 0 ∷ []) (λ wl cs. unique_opens p w wl cs c d h) (tt, tt) i (omega arith))
 
   in_lock : At (lock_at p)
   in_lock = region_alike region.Lock 1024 (131 ∷ 0 ∷ 4 ∷ 0 ∷ []) (λ wl cs. lock_opens p w wl cs c d h) (tt, tt) 0 (lit< tt)
@@ -461,7 +372,7 @@ module _ (p : Shape) (law : Lawful p) (c d w h wel wel' : Bool) (cells cells' : 
             | inl f ↦ subst At (omega arith) (in_unique (i - unique_at p) (omega arith))
             | inr f ↦ elim (cases_eq i (status_at p)) [
               | inl g ↦ subst At (sym g) (status_same e e').1
-              | inr g ↦ subst At (lastly (unique_at p) i lt f g) in_lock
+              | inr g ↦ subst At (omega arith) in_lock
             ]
           ]
         ]
@@ -469,8 +380,8 @@ module _ (p : Shape) (law : Lawful p) (c d w h wel wel' : Bool) (cells cells' : 
 
 -- ---- the whole
 
-as_rest : (u : View) → u.stretch ≡ Deselected → u.cycle ≡ None → u.shift ≡ at_rest → u ≡ rest u.pins.clock u.pins.input u.pins.protect u.pins.hold u.wel u.cells
-as_rest u s c q = λ i. record { pins = u.pins; wel = u.wel; cycle = c i; stretch = s i; shift = q i; cells = u.cells }
+as_rest : (u : View) → AtRest u → u.shift ≡ at_rest → u ≡ rest u.pins.clock u.pins.input u.pins.protect u.pins.hold u.wel u.cells
+as_rest u r q = λ i. record { pins = u.pins; wel = u.wel; cycle = r.idle i; stretch = r.deselected i; shift = q i; cells = u.cells }
 
 -- chips at rest with these levels, latch and cells
 resting : (p : Shape) → Lawful p → (x y : Pins) (wel wel' : Bool) (cells cells' : List ℕ) → Bytes cells → Bytes cells' → unfit p cells ≡ None → unfit p cells' ≡ None →
@@ -480,22 +391,21 @@ resting p law x y wel wel' cells cells' b b' f f' al =
     let ux : View = rest x.clock x.input x.protect x.hold wel cells in
     let vy : View = rest y.clock y.input y.protect y.hold wel' cells' in
     let says : (k : ℕ) → Fine (send k 1 ∷ []) → said p ux k 1 ≡ said p vy k 1 = λ k g. last_said p [] k 1 ux vy (al (send k 1 ∷ []) g.0 g.1) in
-    let ec : x.clock ≡ y.clock = same_clock p wel wel' cells cells' x.clock y.clock x.input y.input x.protect y.protect x.hold y.hold (says 1 (tt, tt)) in
-    let ed : x.input ≡ y.input = same_input p wel wel' cells cells' x.clock y.clock x.input y.input x.protect y.protect x.hold y.hold (says 2 (tt, tt)) in
-    let ew : x.protect ≡ y.protect = same_protect p wel wel' cells cells' x.clock y.clock x.input y.input x.protect y.protect x.hold y.hold (says 3 (tt, tt)) in
-    let eh : x.hold ≡ y.hold = same_hold p wel wel' cells cells' x.clock y.clock x.input y.input x.protect y.protect x.hold y.hold (says 4 (tt, tt)) in
+    let ec : x.clock ≡ y.clock = same_pin x.clock y.clock (moved p ux (Clock true)) (moved p vy (Clock true)) (says 1 (tt, tt)) in
+    let ed : x.input ≡ y.input = same_pin x.input y.input (moved p ux (Data true)) (moved p vy (Data true)) (says 2 (tt, tt)) in
+    let ew : x.protect ≡ y.protect = same_pin x.protect y.protect (moved p ux (Protect true)) (moved p vy (Protect true)) (says 3 (tt, tt)) in
+    let eh : x.hold ≡ y.hold = same_pin x.hold y.hold (moved p ux (Hold true)) (moved p vy (Hold true)) (says 4 (tt, tt)) in
     let al2 : PlainlyAlike p (rest x.clock x.input x.protect x.hold wel cells) (rest x.clock x.input x.protect x.hold wel' cells') =
-    subst (PlainlyAlike p (rest x.clock x.input x.protect x.hold wel cells)) (λ i. rest (sym ec i) (sym ed i) (sym ew i) (sym eh i) wel' cells') al in (
+    rw (← ec, ← ed, ← ew, ← eh) at al in (
       λ i. levels (ec i) (ed i) (ew i) (eh i),
       (status_same p law x.clock x.input x.protect x.hold wel wel' cells cells' b b' al2 (fit_status p cells f) (fit_status p cells' f')).0,
       cell_alike p law x.clock x.input x.protect x.hold wel wel' cells cells' b b' al2 (fit_status p cells f) (fit_status p cells' f'),
     )
 
-pub tells : (p : Shape) → Lawful p → (u v : View) →
-    u.stretch ≡ Deselected → u.cycle ≡ None → u.shift ≡ at_rest → v.stretch ≡ Deselected → v.cycle ≡ None → v.shift ≡ at_rest →
+pub tells : (p : Shape) → Lawful p → (u v : View) → AtRest u → AtRest v → u.shift ≡ at_rest → v.shift ≡ at_rest →
     Bytes u.cells → Bytes v.cells → unfit p u.cells ≡ None → unfit p v.cells ≡ None →
     Alike p u v →
     (u.pins ≡ v.pins) × (u.wel ≡ v.wel) × ((i : ℕ) → i < cell_count p → get_or u.cells i 0 ≡ get_or v.cells i 0)
-tells p law u v su cu qu sv cv qv b b' f f' al =
+tells p law u v ru rv qu qv b b' f f' al =
     resting p law u.pins v.pins u.wel v.wel u.cells v.cells b b' f f'
-    (subst₂ (PlainlyAlike p) (as_rest u su cu qu) (as_rest v sv cv qv) (alike_plainly p u v f f' al))
+    (subst₂ (PlainlyAlike p) (as_rest u ru qu) (as_rest v rv qv) (alike_plainly p u v f f' al))

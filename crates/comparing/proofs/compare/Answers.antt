@@ -16,8 +16,8 @@ returns c =
     (halves c.deliver.new.cells _ _ _ _ c.deliver.ensures c.split_at_mut-low.ensures.value low high) in
     let compared = compared_at _ _ _ _ c.run.result.comparison (ap (λ (p : Outcome). p.view) o) (ap (λ (p : Outcome). p.view) q) c.run.ensures.comparison in
     record {
-      first = c.run.ensures.first ∙ ap (λ (p : Outcome). p.says) o;
-      second = c.run.ensures.second ∙ ap (λ (p : Outcome). p.says) q;
+      first = rw (← o) c.run.ensures.first;
+      second = rw (← q) c.run.ensures.second;
       comparison = compared;
       made = ran_compared c.args.first.now c.args.second.now room c.run.result.comparison compared;
       answers = written_both _ _ _ _ c.args.answers.now _ c.run.new.answers o q refl c.run.ensures.answers;

@@ -11,8 +11,8 @@ returns g c =
     let o = ran_new (view_of bench g.A.Backing.row c.new-one.result) (g.A.Backing.row c.args.a.now) c.args.first.now room room c.new-one.ensures.view refl in
     let q = ran_new (view_of bench g.B.Backing.row c.new-other.result) (g.B.Backing.row c.args.b.now) c.args.second.now room (length c.capture-first.new.answers) c.new-other.ensures.view (omega arith) in
     record {
-      first = c.capture-first.ensures.says ∙ ap (λ (p : Outcome). p.says) o;
-      second = c.capture-second.ensures.says ∙ ap (λ (p : Outcome). p.says) q;
+      first = rw (← o) c.capture-first.ensures.says;
+      second = rw (← q) c.capture-second.ensures.says;
       comparison =
           compared_at _ _ _ _ c.same-comparison.result
           (c.capture-first.ensures.view ∙ ap (λ (p : Outcome). p.view) o)

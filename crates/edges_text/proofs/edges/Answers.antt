@@ -1,6 +1,5 @@
-use Rattle.std.proofs.Common.{[], Err, ap, ◌∙◌, arith}
-use Rattle.backing.specs.declared.fault.Fault.{Fault}
-use Rattle.edges_text.specs.Edges.{lines, ran}
+use Rattle.std.proofs.Common.{◌≡◌, [], Err, arith}
+use Rattle.edges_text.specs.Edges.{lines, ran, edges_of}
 use Rattle.edges_text.proofs.Lines.{long_text, ran_text, laid_same}
 use Rattle.edges_text.proofs.Taking.{levels_taken, room_taken, answers_taken}
 use Rattle.edges_text.proofs.edges.Goals as goal
@@ -8,7 +7,7 @@ use Rattle.edges_text.proofs.edges.Goals as goal
 pub returns-then-input-gt-MOST : goal.returns-then-input-gt-MOST
 returns-then-input-gt-MOST c =
     let w = c.tell.ensures in
-    let same = ap (λ (e : Fault). lines [] (Err e)) c.of.ensures ∙ long_text c.args.input.now (omega arith) in
+    let same : lines [] (Err c.of.result) ≡ edges_of c.args.input.now = rw c.of.ensures (long_text c.args.input.now (omega arith)) in
     let t = laid_same c.args.out.now c.tell.new.out c.tell.result _ _ same w.buffer w.wrote in
     record { buffer = t.buffer; wrote = t.wrote }
 

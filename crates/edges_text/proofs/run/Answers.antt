@@ -1,5 +1,4 @@
-use Rattle.std.proofs.Common.{◌≡◌, length, ap, ◌∙◌, rules}
-use Rattle.rules.specs.Calls.{written}
+use Rattle.std.proofs.Common.{◌≡◌, length, ◌∙◌, rules}
 use Rattle.edges_text.proofs.Delivering.{born_fresh, outcome_ran}
 use Rattle.edges_text.proofs.run.Goals as goal
 
@@ -9,6 +8,6 @@ returns c =
     let new = born_fresh _ _ c.new-chip.ensures.view (c.new-image.ensures.value ∙ c.deliver.ensures) in
     let same = outcome_ran _ c.args.input.now (length c.args.answers.now) new room in
     record {
-      says = c.capture.ensures.says ∙ ap (λ o. o.says) same;
-      answers = c.capture.ensures.answers ∙ ap (λ o. written o.levels c.args.answers.now) same;
+      says = rw (← same) c.capture.ensures.says;
+      answers = rw (← same) c.capture.ensures.answers;
     }

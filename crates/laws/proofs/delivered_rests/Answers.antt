@@ -1,6 +1,6 @@
 use Rattle.std.proofs.Common.{refl, inr, arith}
 use Rattle.laws.proofs.Delivered.{delivered_bytes}
-use mathlib.Core.Bool.{false≢true}
+use Rattle.std.proofs.lemmas.Bool.{false≢true}
 use Rattle.laws.proofs.delivered_rests.Goals as goal
 
 pub returns : goal.returns
