@@ -25,19 +25,16 @@ const BLANK: u8 = 0xFF;
 const PAST: u8 = 0xEE;
 
 fn set(bytes: &mut [u8], place: usize, byte: u8) {
-    if place < bytes.len() {
-        bytes[place] = byte;
+    if let Some(cell) = bytes.get_mut(place) {
+        *cell = byte;
     }
 }
 
 // An image of a delivered part with these two cells, as far as it reaches.
 fn lay_part<P: Part>(bytes: &mut [u8], status: u8, lock: u8) {
-    for i in 0..bytes.len() {
-        bytes[i] = if i < places::cell_count::<P>() {
-            BLANK
-        } else {
-            PAST
-        };
+    let cells = places::cell_count::<P>();
+    for (place, byte) in bytes.iter_mut().enumerate() {
+        *byte = if place < cells { BLANK } else { PAST };
     }
     for i in 0..16u8 {
         set(bytes, places::cell_of::<P>(Region::Unique, u32::from(i)), i);
@@ -50,8 +47,8 @@ fn tell(rt: &HostRuntime, name: &str, says: Result<usize, Fault>) -> anyhow::Res
     match says {
         Ok(value) => print!(rt; "{name}: value {value}")?,
         Err(fault) => {
-            let number = fault.refusal.number();
-            let layer = fault.layer.number();
+            let number = u8::from(fault.refusal);
+            let layer = u8::from(fault.layer);
             let record = fault.record;
             print!(rt; "{name}: refused {number} layer {layer} record {record}")?;
         }
@@ -61,17 +58,10 @@ fn tell(rt: &HostRuntime, name: &str, says: Result<usize, Fault>) -> anyhow::Res
 
 // How many bytes of a buffer are as they were, and the first that is neither that nor a blank cell's.
 fn tell_buffer(rt: &HostRuntime, buffer: &[u8]) -> anyhow::Result<()> {
-    let mut kept = 0usize;
-    let mut first = None;
-    for (place, byte) in buffer.iter().enumerate() {
-        if *byte == FILL {
-            kept = kept.saturating_add(1);
-        } else if *byte != BLANK && first.is_none() {
-            first = Some((place, *byte));
-        }
-    }
+    let kept = buffer.iter().filter(|&&byte| byte == FILL).count();
     print!(rt; ", {kept} kept")?;
-    if let Some((place, byte)) = first {
+    let mut places = buffer.iter().enumerate();
+    if let Some((place, byte)) = places.find(|&(_, &byte)| byte != FILL && byte != BLANK) {
         print!(rt; ", {byte} at {place}")?;
     }
     Ok(())
@@ -92,11 +82,8 @@ fn ask<P: Part>(
     let _ = chip.capture(row.2, &mut answers);
     match row.3 {
         Ask::Event(kind, level) => {
-            let says = match chip.event(kind, level) {
-                Ok(q) => Ok(q.number() as usize),
-                Err(fault) => Err(fault),
-            };
-            tell(rt, row.0, says)?;
+            let says = chip.event(kind, level);
+            tell(rt, row.0, says.map(|q| usize::from(u8::from(q))))?;
         }
         Ask::Capture(records, room) => {
             let mut answers = vec![in rt.alloc(); FILL; room]?;
@@ -134,22 +121,18 @@ fn run_case(rt: &HostRuntime, line: &str, text: &mut [u8]) -> anyhow::Result<()>
     let input = fs::read(rt, path.as_str())?;
     println!(rt; "{line}")?;
     let n = edges(input.as_slice(), text);
-    rt.stdout().write_all(&text[0..n])?;
-    Ok(())
-}
-
-fn run(rt: &HostRuntime) -> anyhow::Result<()> {
-    let index = fs::read_to_string(rt, "index")?;
-    let mut text = vec![in rt.alloc(); 0u8; MOST]?;
-    for line in index.as_str().lines() {
-        run_case(rt, line, text.as_mut_slice())?;
-    }
-    for row in &TABLE {
-        run_row(rt, row)?;
-    }
+    rt.stdout().write_all(&text[..n])?;
     Ok(())
 }
 
 fn main(rt: HostRuntime) -> anyhow::Result<()> {
-    run(&rt)
+    let index = fs::read_to_string(&rt, "index")?;
+    let mut text = vec![in rt.alloc(); 0u8; MOST]?;
+    for line in index.as_str().lines() {
+        run_case(&rt, line, text.as_mut_slice())?;
+    }
+    for row in &TABLE {
+        run_row(&rt, row)?;
+    }
+    Ok(())
 }

@@ -14,23 +14,19 @@ fn load(rt: &HostRuntime, path: &str) -> anyhow::Result<Vec<u8>> {
     }
 }
 
-fn run(rt: &HostRuntime) -> anyhow::Result<()> {
-    let mut args = env::args(rt)?;
+fn main(rt: HostRuntime) -> anyhow::Result<()> {
+    let mut args = env::args(&rt)?;
     let _ = args.next();
     let (Some(first), Some(second), None) = (args.next(), args.next(), args.next()) else {
         return Err(anyhow!("usage: compare FIRST SECOND"));
     };
-    let first = load(rt, first.as_str())?;
-    let second = load(rt, second.as_str())?;
+    let first = load(&rt, first.as_str())?;
+    let second = load(&rt, second.as_str())?;
     let records = first.len().max(second.len()) / 2;
     let mut answers = vec![in rt.alloc(); 0u8; records]?;
     let report = compare(first.as_slice(), second.as_slice(), answers.as_mut_slice());
     let mut text = [0u8; 192];
     let n = tell(&mut text, &report);
-    rt.stdout().write_all(&text[0..n])?;
+    rt.stdout().write_all(&text[..n])?;
     Ok(())
-}
-
-fn main(rt: HostRuntime) -> anyhow::Result<()> {
-    run(&rt)
 }

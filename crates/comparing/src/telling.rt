@@ -1,6 +1,6 @@
 // A report as text.
-ghost use Rattle.std.specs.Prelude.{◌≡◌, ℕ, ◌+◌, ◌≤◌, min, List, ◌++◌, length};
-ghost use Rattle.text.specs.Text.{overlaid};
+ghost use Rattle.std.specs.Prelude.{◌≡◌, ℕ, ◌+◌, ◌≤◌, List, ◌++◌, length};
+ghost use Rattle.text.specs.Text.{Fills};
 ghost use Rattle.text.specs.Writers.{Holds};
 ghost use Rattle.comparing.specs.Telling.{capture_line, comparison_line, words_of, told};
 
@@ -22,7 +22,7 @@ fn capture_line<'a>(writer: &mut Writer<'a>, whose: &[u8], answer: Result<usize,
         }
         Err(fault) => {
             writer.bytes(b"refused ");
-            writer.number(fault.refusal.number() as usize);
+            writer.number(usize::from(u8::from(fault.refusal)));
             writer.bytes(b" at ");
             writer.number(fault.record);
             writer.bytes(b"\n");
@@ -49,7 +49,7 @@ fn comparison_line<'a>(writer: &mut Writer<'a>, answer: Result<Comparison, Fault
         Ok(comparison) => writer.bytes(words(comparison)),
         Err(fault) => {
             writer.bytes(b"not compared: refused ");
-            writer.number(fault.refusal.number() as usize);
+            writer.number(usize::from(u8::from(fault.refusal)));
             writer.bytes(b"\n");
         }
     }
@@ -57,8 +57,7 @@ fn comparison_line<'a>(writer: &mut Writer<'a>, answer: Result<Comparison, Fault
 
 // Lays the report's three lines, cut off at the buffer's end; answers how many bytes it wrote.
 pub fn tell(out: &mut [u8], report: &Report) -> usize
-    ensures buffer { out.new ≡ overlaid out.old (told report.now) }
-    ensures wrote { result ≡ min (length (told report.now)) (length out.old) }
+    ensures fills { Fills out.old (told report.now) result out.new }
     ensures short { length (told report.now) ≤ 192 }
 {
     let mut writer = Writer::new(out);

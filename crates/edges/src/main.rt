@@ -4,15 +4,11 @@
 use edges_text::{MOST, edges};
 use std::io::{Read, Write};
 
-fn run(rt: &HostRuntime) -> anyhow::Result<()> {
+fn main(rt: HostRuntime) -> anyhow::Result<()> {
     let mut input = Vec::new(rt.alloc());
     rt.stdin().take(MOST as u64 + 1).read_to_end(&mut input)?;
     let mut text = vec![in rt.alloc(); 0u8; MOST]?;
     let n = edges(input.as_slice(), text.as_mut_slice());
-    rt.stdout().write_all(&text.as_slice()[0..n])?;
+    rt.stdout().write_all(&text.as_slice()[..n])?;
     Ok(())
-}
-
-fn main(rt: HostRuntime) -> anyhow::Result<()> {
-    run(&rt)
 }

@@ -1,5 +1,5 @@
 -- How many records a capture takes.
-use Rattle.std.proofs.Common.{◌≡◌, ℕ, ◌+◌, ◌-◌, ◌*◌, ◌≤◌, List, [], ◌∷◌, map, length, take, drop, Some, None, Err, Option, Result, arith}
+use Rattle.std.proofs.Common.{◌≡◌, ℕ, ◌+◌, ◌*◌, ◌≤◌, List, [], ◌∷◌, map, length, take, drop, Some, None, Err, Option, Result, arith}
 use Rattle.std.proofs.lemmas.List.{length-map, take_at}
 use Rattle.backing.specs.Faults.{raised}
 use Rattle.backing.specs.declared.fault.Fault.{Fault}
@@ -49,6 +49,6 @@ levels_taken input says n e f = let t = ran_takes input in rw (f, e) (omega arit
 pub room_taken : (input : List ℕ) (n : ℕ) → n ≡ length (ran input).levels → length input ≤ 60000 → n ≤ 30000
 room_taken input n e h = let t = ran_takes input in omega arith
 
-pub answers_taken : (qs : List Level) (answers old : List ℕ) (n : ℕ) → answers ≡ written qs old → n ≡ length qs → take (n - 0) answers ≡ map level_number qs
+pub answers_taken : (qs : List Level) (answers old : List ℕ) (n : ℕ) → answers ≡ written qs old → n ≡ length qs → take n answers ≡ map level_number qs
 answers_taken qs answers old n e f =
-    rw (e, take_at (map level_number qs) (drop (length qs) old) (n - 0) (omega (arith, length-map qs level_number)))
+    rw (e, take_at (map level_number qs) (drop (length qs) old) n (omega (arith, length-map qs level_number)))

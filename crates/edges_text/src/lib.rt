@@ -1,12 +1,13 @@
 // The text of a capture run on a delivered bench part.
 #![tactic(auto)]
 
-ghost use Rattle.std.specs.Prelude.{◌≡◌, min, List, ◌++◌, map, length, codes};
+ghost use Rattle.std.specs.Prelude.{◌≡◌, ℕ, List, ◌++◌, map};
 ghost use Rattle.rules.specs.declared.state.Level.{Level as Q};
 ghost use Rattle.rules.specs.Tables.{level_number};
 ghost use Rattle.rules.specs.Calls.{written};
-ghost use Rattle.text.specs.Text.{overlaid};
-ghost use Rattle.edges_text.specs.Edges.{letter, refused_line, lines, taken_of, ran, edges_of};
+ghost use Rattle.text.specs.Text.{Fills};
+ghost use Rattle.text.specs.Writers.{Holds};
+ghost use Rattle.edges_text.specs.Edges.{letter, fault_text, lines, taken_of, ran, edges_of};
 
 use backing::fault::Fault;
 use backing::image::Image;
@@ -38,10 +39,7 @@ fn run(input: &[u8], answers: &mut [u8; RECORDS]) -> Result<usize, Fault>
 fn taken(says: Result<usize, Fault>) -> usize
     ensures { result ≡ taken_of says }
 {
-    match says {
-        Ok(records) => records,
-        Err(fault) => fault.record,
-    }
+    says.unwrap_or_else(|fault| fault.record)
 }
 
 // An answer byte's character.
@@ -64,54 +62,41 @@ fn spell(answers: &mut [u8])
     }
 }
 
-// Lays line one, cut off at the buffer's end; answers how many bytes it wrote.
-fn plain(out: &mut [u8], letters: &[u8]) -> usize
-    ensures buffer { out.new ≡ overlaid out.old (letters.now ++ codes "\n") }
-    ensures wrote { result ≡ min (length (letters.now ++ codes "\n")) (length out.old) }
+// Lays the fault's line, if there is a fault.
+fn fault_line<'a>(writer: &mut Writer<'a>, says: Result<usize, Fault>)
+    ensures holds { (b t : List ℕ) → Holds b t writer.old → Holds b (t ++ fault_text says) writer.new }
+    ensures kept { writer.new.out.ghost_name ≡ writer.old.out.ghost_name }
 {
-    let mut writer = Writer::new(out);
-    writer.bytes(letters);
-    writer.bytes(b"\n");
-    writer.written()
-}
-
-// Lays line one and the fault's line, likewise.
-fn refused(out: &mut [u8], letters: &[u8], fault: Fault) -> usize
-    ensures buffer { out.new ≡ overlaid out.old (letters.now ++ codes "\n" ++ refused_line fault) }
-    ensures wrote { result ≡ min (length (letters.now ++ codes "\n" ++ refused_line fault)) (length out.old) }
-{
-    let mut writer = Writer::new(out);
-    writer.bytes(letters);
-    writer.bytes(b"\nrefused ");
-    writer.number(fault.refusal.number() as usize);
-    writer.bytes(b" at ");
-    writer.number(fault.record);
-    writer.bytes(b"\n");
-    writer.written()
-}
-
-// Lays the lines of what a capture answered, likewise.
-fn tell(out: &mut [u8], letters: &[u8], says: Result<usize, Fault>) -> usize
-    ensures buffer { out.new ≡ overlaid out.old (lines letters.now says) }
-    ensures wrote { result ≡ min (length (lines letters.now says)) (length out.old) }
-{
-    match says {
-        Ok(_) => plain(out, letters),
-        Err(fault) => refused(out, letters, fault),
+    if let Err(fault) = says {
+        writer.bytes(b"refused ");
+        writer.number(usize::from(u8::from(fault.refusal)));
+        writer.bytes(b" at ");
+        writer.number(fault.record);
+        writer.bytes(b"\n");
     }
+}
+
+// Lays line one and the fault's line, cut off at the buffer's end; answers how many bytes it wrote.
+fn tell(out: &mut [u8], letters: &[u8], says: Result<usize, Fault>) -> usize
+    ensures { Fills out.old (lines letters.now says) result out.new }
+{
+    let mut writer = Writer::new(out);
+    writer.bytes(letters);
+    writer.bytes(b"\n");
+    fault_line(&mut writer, says);
+    writer.written()
 }
 
 // The text, cut off at the buffer's end, the rest untouched; answers how many bytes it wrote.
 pub fn edges(input: &[u8], out: &mut [u8]) -> usize
-    ensures buffer { out.new ≡ overlaid out.old (edges_of input.now) }
-    ensures wrote { result ≡ min (length (edges_of input.now)) (length out.old) }
+    ensures { Fills out.old (edges_of input.now) result out.new }
 {
     if input.len() > MOST {
-        return tell(out, &[], Err(Fault::of(Refusal::LongInput)));
+        return tell(out, &[], Err(Fault::from(Refusal::LongInput)));
     }
     let mut answers = [0u8; RECORDS];
     let says = run(input, &mut answers);
-    let letters = &mut answers[0..taken(says)];
+    let letters = &mut answers[..taken(says)];
     spell(letters);
     tell(out, letters, says)
 }
@@ -132,8 +117,8 @@ mod tests {
 
     // Records in which D rises and falls.
     fn swing(bytes: &mut [u8]) {
-        for i in 0..bytes.len() {
-            bytes[i] = [2, 1, 2, 0][i % 4];
+        for (i, byte) in bytes.iter_mut().enumerate() {
+            *byte = [2, 1, 2, 0][i % 4];
         }
     }
 

@@ -16,9 +16,9 @@ pub returns-in-Err : goal.returns-in-Err
 returns-in-Err c =
     record {
       holds = λ b t h.
-          refused_line b t c.args.whose.now c.number-in-Err.result c.in-Err.fault c.args.answer c.bytes-in-Err-3.new.self c.in-Err.is
-          c.number-in-Err.ensures.value
-          (c.bytes-in-Err-3.ensures.holds b _ (c.number-in-Err-3.ensures.holds b _ (c.bytes-in-Err-2.ensures.holds b _ (c.number-in-Err-2.ensures.holds b _ (c.bytes-in-Err.ensures.holds b _ (c.bytes.ensures.holds b t h))))));
+          refused_line b t c.args.whose.now c.from-in-Err.result c.in-Err.fault c.args.answer c.bytes-in-Err-3.new.self c.in-Err.is
+          (search rules)
+          (c.bytes-in-Err-3.ensures.holds b _ (c.number-in-Err-2.ensures.holds b _ (c.bytes-in-Err-2.ensures.holds b _ (c.number-in-Err.ensures.holds b _ (c.bytes-in-Err.ensures.holds b _ (c.bytes.ensures.holds b t h))))));
       kept = search rules;
       short = refused_short c.args.whose.now c.in-Err.fault c.args.answer c.in-Err.is (omega arith);
     }

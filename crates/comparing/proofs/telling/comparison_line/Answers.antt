@@ -6,8 +6,8 @@ pub returns-in-Err : goal.returns-in-Err
 returns-in-Err c =
     record {
       holds = λ b t h.
-          faulty_line b t c.number.result c.in-Err.fault c.args.answer c.bytes-in-Err-2.new.self c.in-Err.is
-          c.number.ensures.value
-          (c.bytes-in-Err-2.ensures.holds b _ (c.number-in-Err.ensures.holds b _ (c.bytes-in-Err.ensures.holds b t h)));
+          faulty_line b t c.from-in-Err.result c.in-Err.fault c.args.answer c.bytes-in-Err-2.new.self c.in-Err.is
+          (search rules)
+          (c.bytes-in-Err-2.ensures.holds b _ (c.number.ensures.holds b _ (c.bytes-in-Err.ensures.holds b t h)));
       kept = search rules;
     }

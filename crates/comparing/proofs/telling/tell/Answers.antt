@@ -5,7 +5,6 @@ use Rattle.comparing.proofs.telling.tell.Goals as goal
 pub returns : goal.returns
 returns c =
     record {
-      buffer = search rules;
-      wrote = search rules;
+      fills = search rules;
       short = told_short c.args.report.now c.capture_line.ensures.short c.capture_line-2.ensures.short;
     }

@@ -1,0 +1,12 @@
+use Rattle.std.proofs.Common.{rules}
+use Rattle.edges_text.proofs.Lines.{faulty}
+use Rattle.edges_text.proofs.fault_line.Goals as goal
+
+pub returns-in-Err : goal.returns-in-Err
+returns-in-Err c =
+    record {
+      holds = λ b t h.
+          faulty b t c.from-in-Err.result c.in-Err.fault c.args.says c.bytes-in-Err-2.new.self c.in-Err.is (search rules)
+          (c.bytes-in-Err-2.ensures.holds b _ (c.number-in-Err.ensures.holds b _ (c.bytes-in-Err.ensures.holds b _ (c.number.ensures.holds b _ (c.bytes.ensures.holds b t h)))));
+      kept = search rules;
+    }
