@@ -1,6 +1,7 @@
 // Single calls on chips over images of their own.
 
-// A part, the length of its image, and its status and lock cell.
+// A part, the length of its image, and its status and lock cell. A struct with a part's name is no plainer: each variant
+// is a call at another type.
 #[derive(Clone, Copy)]
 pub enum Over {
     Bench(usize, u8, u8),

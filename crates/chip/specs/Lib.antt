@@ -1,5 +1,5 @@
 pub mod Shows
 pub mod Answers
-pub mod Equality
+pub mod Cells
 pub mod Sameness
 pub mod Histories

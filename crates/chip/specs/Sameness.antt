@@ -9,7 +9,7 @@ use Rattle.rules.specs.Rules.{View, running, is_off}
 use Rattle.rules.specs.Calls.{Call}
 use Rattle.laws.specs.Laws.{chip_after, journal_after, AtRest, Alike, Agree}
 use Rattle.chip.specs.Answers.{checked}
-use Rattle.chip.specs.Equality.{EqualCells}
+use Rattle.chip.specs.Cells.{EqualCells}
 use Rattle.chip.specs.declared.sameness.Comparison.{Comparison}
 use Rattle.chip.specs.declared.sameness.Comparison.TheVariants.{Selected, Running, Same, Different}
 

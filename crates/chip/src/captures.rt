@@ -13,7 +13,8 @@ use backing::refusal::Refusal;
 use backing::row::Backing;
 
 impl<'a, P: Part, B: Backing> Chip<'a, P, B> {
-    // Takes the records, each a kind and a level, and answers how many; Q after record i goes to answers[i].
+    // Takes the records, each a kind and a level, and answers how many; Q after record i goes to answers[i]. Both are plain
+    // bytes of the caller's, as C has them, and no heap is used.
     pub fn capture(&mut self, records: &[u8], answers: &mut [u8]) -> Result<usize, Fault>
         ensures view { view_of P.shape B.Backing.row self.new ≡ (outcome P.shape (view_of P.shape B.Backing.row self.old) (capturing records.now (length answers.old))).view }
         ensures says { result ≡ (outcome P.shape (view_of P.shape B.Backing.row self.old) (capturing records.now (length answers.old))).says }

@@ -1,11 +1,11 @@
 // The cells of a part in a backing.
-ghost use Rattle.std.specs.Prelude.{◌≡◌, ℕ, ◌+◌, ◌^◌, ◌<◌, ◌≤◌, length, take, drop, None, Ok, Err, MatchResult, Decides, slice_index};
+ghost use Rattle.std.specs.Prelude.{◌≡◌, ℕ, List, ◌+◌, ◌^◌, ◌<◌, ◌≤◌, length, take, drop, Ok, Err, MatchResult, Decides, slice_index};
 ghost use Rattle.rules.specs.Shape.{cell_count, status_at, lock_at};
 ghost use Rattle.rules.specs.Tables.{unfit, passed};
 ghost use Rattle.rules.specs.Rules.{base, laid, counts};
 ghost use Rattle.chip.specs.Shows.{cells_of};
 ghost use Rattle.chip.specs.Answers.{checked, unlawful};
-ghost use Rattle.chip.specs.Equality.{EqualCells};
+ghost use Rattle.chip.specs.Cells.{Usable, EqualCells};
 
 use super::part::Part;
 use super::places;
@@ -14,14 +14,21 @@ use backing::refusal::Refusal;
 use backing::row::Backing;
 use rules::page::keep;
 use rules::state::{Page, Target};
-use std::marker::PhantomData;
+use std::marker::{Model, PhantomData};
 
-// A part's cells: the front of a backing that has them all.
+// A part's cells: the front of a backing that has them all. Clauses see the bytes of the cells.
 #[derive(Drop)]
 pub(crate) struct Cells<'c, P: Part, B: Backing> {
-    pub(crate) backing: &'c B,
+    backing: &'c B,
     part: PhantomData<P>,
-    ghost whole: { cell_count P.shape ≤ length (B.Backing.row backing.now) },
+}
+
+impl<'c, P: Part, B: Backing> Model for Cells<'c, P, B> {
+    ghost Value = { List ℕ };
+
+    ghost view = { λ c. cells_of P.shape (B.Backing.row c.backing.now) };
+
+    ghost invariant = { λ c. cell_count P.shape ≤ length (B.Backing.row c.backing.now) };
 }
 
 // Whether the status and the lock cell may be so.
@@ -40,7 +47,7 @@ fn judge_cells(status: u8, lock: u8) -> Result<(), Refusal>
 impl<'c, P: Part, B: Backing> Cells<'c, P, B> {
     // Making's refusals: whether the backing's row can be the part's cells.
     pub(crate) fn of(backing: &'c B) -> Result<Cells<'c, P, B>, Fault>
-        ensures { MatchResult result (λ cells. (unfit P.shape (cells_of P.shape (B.Backing.row backing.now)) ≡ None) × (cells.backing.now ≡ backing.now)) (λ fault. checked (unfit P.shape (cells_of P.shape (B.Backing.row backing.now))) ≡ Err fault) }
+        ensures { MatchResult result (λ cells. Usable P.shape (B.Backing.row backing.now) cells) (λ fault. checked (unfit P.shape (cells_of P.shape (B.Backing.row backing.now))) ≡ Err fault) }
     {
         if backing.len() < places::cell_count::<P>() {
             return Err(Fault::from(Refusal::ShortBacking));
@@ -58,7 +65,7 @@ impl<'c, P: Part, B: Backing> Cells<'c, P, B> {
     // The cells of a backing that has them all.
     pub(crate) fn new(backing: &'c B) -> Cells<'c, P, B>
         requires { cell_count P.shape ≤ length (B.Backing.row backing.now) }
-        ensures { result.backing.now ≡ backing.now }
+        ensures { result ≡ cells_of P.shape (B.Backing.row backing.now) }
     {
         Cells {
             backing,
@@ -69,21 +76,22 @@ impl<'c, P: Part, B: Backing> Cells<'c, P, B> {
     // The byte of a cell.
     pub(crate) fn get(&self, place: usize) -> Result<u8, Fault>
         requires { place < cell_count P.shape }
-        ensures { result ≡ Ok (slice_index (cells_of P.shape (B.Backing.row self.now.backing.now)) place) }
+        ensures value { result ≡ Ok (slice_index self.now place) }
+        ensures whole { length self.now ≡ cell_count P.shape }
     {
         self.backing.get(place)
     }
 
     // The first byte that a write to this target may reach: the whole of the status and of the lock cell.
     pub(crate) fn first(&self, target: Target) -> Result<u8, Fault>
-        ensures { result ≡ Ok (slice_index (cells_of P.shape (B.Backing.row self.now.backing.now)) (base P.shape target 0)) }
+        ensures { result ≡ Ok (slice_index self.now (base P.shape target 0)) }
     {
         self.get(places::base_of::<P>(target, 0))
     }
 
     // Whether a write counts, with W at this level.
     pub(crate) fn takes(&self, protect: bool, page: &Page) -> Result<bool, Fault>
-        ensures { result ≡ Ok (counts P.shape protect (slice_index (cells_of P.shape (B.Backing.row self.now.backing.now)) (status_at P.shape)) (slice_index (cells_of P.shape (B.Backing.row self.now.backing.now)) (lock_at P.shape)) page.now) }
+        ensures { result ≡ Ok (counts P.shape protect (slice_index self.now (status_at P.shape)) (slice_index self.now (lock_at P.shape)) page.now) }
     {
         let status = self.first(Target::Status)?;
         let lock = self.first(Target::Lock)?;
@@ -99,7 +107,7 @@ impl<'c, P: Part, B: Backing> Cells<'c, P, B> {
     pub(crate) fn fill(&self, from: usize, out: &mut [u8]) -> Result<(), Fault>
         requires { (length out.old ≡ 256) × (from + 256 ≤ cell_count P.shape) }
         ensures made { result ≡ Ok tt }
-        ensures out { out.new ≡ take 256 (drop from (cells_of P.shape (B.Backing.row self.now.backing.now))) }
+        ensures out { out.new ≡ take 256 (drop from self.now) }
     {
         for (i, byte) in out.iter_mut().enumerate() {
             *byte = self.get(from + i)?;
@@ -107,9 +115,10 @@ impl<'c, P: Part, B: Backing> Cells<'c, P, B> {
         Ok(())
     }
 
-    // Whether the cells of two chips hold the same bytes.
+    // Whether the cells of two chips hold the same bytes. An iterator is no plainer: a backing is read place by place, and
+    // each read may be refused.
     pub(crate) fn same<A: Backing>(&self, other: &Cells<'_, P, A>) -> Result<bool, Fault>
-        ensures { MatchResult result (λ same. Decides same (EqualCells P.shape (cells_of P.shape (B.Backing.row self.now.backing.now)) (cells_of P.shape (A.Backing.row other.now.backing.now)))) (λ _. ⊥) }
+        ensures { MatchResult result (λ same. Decides same (EqualCells P.shape self.now other.now)) (λ _. ⊥) }
     {
         for place in 0..places::cell_count::<P>() {
             if self.get(place)? != other.get(place)? {

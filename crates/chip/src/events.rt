@@ -35,6 +35,9 @@ impl Unit {
     }
 }
 
+// What is asked here of the backing stays a `requires`: a struct that lends a chip and keeps that fact as its ghost field
+// was tried, and its proof did not close, since what a field behind a `&mut` lends is not covered. A backing's faults pass
+// up by `?`, though none comes.
 impl<'a, P: Part, B: Backing> Chip<'a, P, B> {
     fn cycle_end(&mut self) -> Result<(), Fault>
         requires { cell_count P.shape ≤ length (B.Backing.row self.old.backing.now) }

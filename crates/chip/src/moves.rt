@@ -1,7 +1,7 @@
 // What a fall of C and a rise of S do to a unit, beside the cells that it reads.
 ghost use Rattle.std.specs.Prelude.{◌≡◌, true, is_ok, IfOk, Ok};
 ghost use Rattle.rules.specs.Rules.{falls_c, rises_s};
-ghost use Rattle.chip.specs.Shows.{cells_of, shown, resting};
+ghost use Rattle.chip.specs.Shows.{shown, resting};
 ghost use Rattle.chip.specs.Answers.{Fresh};
 
 use super::cells::Cells;
@@ -24,7 +24,7 @@ impl Unit {
     // The byte that a fall of C begins to put out: it is sampled at bit 0 of an output byte, the highest.
     fn fresh<P: Part, B: Backing>(&self, cells: &Cells<'_, P, B>) -> Result<u8, Fault>
         ensures made { is_ok result ≡ true }
-        ensures value { IfOk result (λ fresh. Fresh P.shape (shown self.now (cells_of P.shape (B.Backing.row cells.now.backing.now))) fresh) }
+        ensures value { IfOk result (λ fresh. Fresh P.shape (shown self.now cells.now) fresh) }
     {
         match self.stretch {
             Phase::Status(0) => {
@@ -41,7 +41,7 @@ impl Unit {
         cells: &Cells<'_, P, B>,
     ) -> Result<(), Fault>
         ensures made { result ≡ Ok tt }
-        ensures view { shown self.new (cells_of P.shape (B.Backing.row cells.now.backing.now)) ≡ falls_c P.shape (shown self.old (cells_of P.shape (B.Backing.row cells.now.backing.now))) self.old.shift.held }
+        ensures view { shown self.new cells.now ≡ falls_c P.shape (shown self.old cells.now) self.old.shift.held }
     {
         let held = !self.stretch.is_off() && !self.pins.hold;
         self.pins.clock = false;
@@ -62,7 +62,7 @@ impl Unit {
         cells: &Cells<'_, P, B>,
     ) -> Result<(), Fault>
         ensures made { result ≡ Ok tt }
-        ensures view { shown self.new (cells_of P.shape (B.Backing.row cells.now.backing.now)) ≡ rises_s P.shape (shown self.old (cells_of P.shape (B.Backing.row cells.now.backing.now))) self.old.shift.held }
+        ensures view { shown self.new cells.now ≡ rises_s P.shape (shown self.old cells.now) self.old.shift.held }
     {
         if self.shift.held {
             self.deselect();

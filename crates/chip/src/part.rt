@@ -8,6 +8,7 @@ ghost use Rattle.std.proofs.Common.{lit≤, inr};
 
 use rules::state::IdentPage;
 
+// Three impls: one over a const parameter could not show that every width is lawful.
 pub trait Part {
     const ADDRESS_BITS: u32;
 

@@ -30,6 +30,7 @@ fn capture_line<'a>(writer: &mut Writer<'a>, whose: &[u8], answer: Result<usize,
     }
 }
 
+// A `Display` is no plainer: a report is laid as bytes, with no formatter.
 fn words(comparison: Comparison) -> &'static [u8]
     ensures { result.now ≡ words_of comparison }
 {

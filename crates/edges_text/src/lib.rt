@@ -42,7 +42,7 @@ fn taken(says: Result<usize, Fault>) -> usize
     says.unwrap_or_else(|fault| fault.record)
 }
 
-// An answer byte's character.
+// An answer byte's character. No enum stands here: by its format a capture's answer is a number.
 fn letter_of(answer: u8) -> u8
     ensures { (q : Q) → answer ≡ level_number q → result ≡ letter q }
 {
@@ -62,7 +62,7 @@ fn spell(answers: &mut [u8])
     }
 }
 
-// Lays the fault's line, if there is a fault.
+// Lays the fault's line, if there is a fault. A report has a line like it; no crate below both knows faults and text.
 fn fault_line<'a>(writer: &mut Writer<'a>, says: Result<usize, Fault>)
     ensures holds { (b t : List ℕ) → Holds b t writer.old → Holds b (t ++ fault_text says) writer.new }
     ensures kept { writer.new.out.ghost_name ≡ writer.old.out.ghost_name }
@@ -94,6 +94,7 @@ pub fn edges(input: &[u8], out: &mut [u8]) -> usize
     if input.len() > MOST {
         return tell(out, &[], Err(Fault::from(Refusal::LongInput)));
     }
+    // Fixed memory: the text needs no heap.
     let mut answers = [0u8; RECORDS];
     let says = run(input, &mut answers);
     let letters = &mut answers[..taken(says)];

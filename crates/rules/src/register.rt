@@ -2,6 +2,7 @@
 ghost use Rattle.std.specs.Prelude.{◌≡◌};
 ghost use Rattle.rules.specs.Rules.{pushed, pushed_address};
 
+// Two functions: one with its modulus as a const parameter would have to ask that it is not 0, and no call asks anything.
 pub fn push(value: u8, d: bool) -> u8
     ensures { result ≡ pushed value d }
 {

@@ -125,7 +125,8 @@ pub struct Pins {
     pub hold: bool,
 }
 
-// The output side: held, the last bit shifted, and the byte being shifted out as it was sampled.
+// The output side: held, the last bit shifted, and the byte being shifted out as it was sampled. No `Option` of the bit is
+// plainer, since the bit that a hold hides comes back when it ends.
 #[derive(Clone, Copy)]
 pub struct Shift {
     pub held: bool,

@@ -8,7 +8,7 @@ returns-then-branch g c =
     let p = g.P.Part.shape in
     compared_same p g.P.Part.lawful
     (view_of p g.A.Backing.row c.args.a.now) (view_of p g.B.Backing.row c.args.b.now)
-    c.in_ok-first.ensures.0 c.in_ok-second.ensures.0
+    c.in_ok-first.ensures.fit c.in_ok-second.ensures.fit
     (search rules) (search rules) (search rules) (search rules)
     (search rules)
 
@@ -17,6 +17,6 @@ returns-else-eq g c =
     let p = g.P.Part.shape in
     compared_different p g.P.Part.lawful
     (view_of p g.A.Backing.row c.args.a.now) (view_of p g.B.Backing.row c.args.b.now)
-    c.in_ok-first.ensures.0 c.in_ok-second.ensures.0
+    c.in_ok-first.ensures.fit c.in_ok-second.ensures.fit
     (search rules) (search rules) (search rules) (search rules)
     (λ q. search rules)

@@ -1,4 +1,4 @@
-use Rattle.std.proofs.Common.{◌≤◌, length, Err, sym, ap, ◌∙◌, arith, rules}
+use Rattle.std.proofs.Common.{◌≤◌, length, Err, sym, refl, ap, ◌∙◌, arith, rules}
 use Rattle.rules.specs.Shape.{cell_count}
 use Rattle.chip.proofs.Rows.{short_row, judged_fit, judged_unfit}
 use Rattle.chip.proofs.cells.Cells.of.Goals as goal
@@ -17,4 +17,11 @@ returns-in_err-judge_cells g c =
 
 pub returns : goal.returns
 returns g c =
-    (judged_fit g.P.Part.shape (g.B.Backing.row c.args.backing.now) c.in_ok-status.status c.in_ok-lock.lock (omega arith) c.in_ok-status.ensures c.in_ok-lock.ensures c.in_ok-judge_cells.ensures, search rules)
+    let p = g.P.Part.shape in
+    let row = g.B.Backing.row c.args.backing.now in
+    let long : cell_count p ≤ length row = omega arith in
+    record {
+      fit = judged_fit p row c.in_ok-status.status c.in_ok-lock.lock long c.in_ok-status.ensures c.in_ok-lock.ensures c.in_ok-judge_cells.ensures;
+      long = long;
+      is_front = refl;
+    }

@@ -27,8 +27,8 @@ returns g c =
     let p = g.P.Part.shape in
     let v = view_of p g.B.Backing.row c.args.self.now in
     let w = view_of p g.B.Backing.row c.step.new.self in
-    let s = outcome_says p v c.args.kind c.args.level c.step.result c.in_ok-of.ensures.0 c.step.ensures.answer in
-    let u = outcome_view p v w c.args.kind c.args.level c.in_ok-of.ensures.0 c.step.ensures.view in
+    let s = outcome_says p v c.args.kind c.args.level c.step.result c.in_ok-of.ensures.fit c.step.ensures.answer in
+    let u = outcome_view p v w c.args.kind c.args.level c.in_ok-of.ensures.fit c.step.ensures.view in
     record {
       says = s;
       view = u;
