@@ -29,11 +29,14 @@ def functions(text):
         start = None
         indent = len(m.group(0)) - len(m.group(0).lstrip())
         close = re.compile(r"^ {%d}\}|;$" % indent, re.M)
-        opening = re.compile(r"(^ {%d}\{$| \{$)" % indent, re.M)
+        opening = re.compile(r"(^ {%d}\{\}?$| \{\}?$)" % indent, re.M)
         o = opening.search(text, m.end())
         semi = text.find(";\n", m.end())
         if o is None or (0 <= semi < o.start() and "\n\n" not in text[m.end():semi] and text[m.end():semi].count("{") == text[m.end():semi].count("}")):
             yield line, m.group(3), text[m.start():semi if semi > 0 else len(text)], ""
+            continue
+        if o.group(0).endswith("{}"):
+            yield line, m.group(3), text[m.start():o.start()], ""
             continue
         e = re.compile(r"^ {%d}\}" % indent, re.M).search(text, o.end())
         yield line, m.group(3), text[m.start():o.start()], text[o.end():e.start() if e else len(text)]
