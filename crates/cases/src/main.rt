@@ -12,7 +12,7 @@ use edges_text::{MOST, edges};
 use rules::state::{Region, Target};
 use std::fs;
 use std::io::Write;
-use table::{Ask, Over, Row, TABLE};
+use table::{Ask, Kind, Over, Row, TABLE};
 
 mod table;
 
@@ -67,13 +67,8 @@ fn tell_buffer(rt: &HostRuntime, buffer: &[u8]) -> anyhow::Result<()> {
     Ok(())
 }
 
-fn ask<P: Part>(
-    rt: &HostRuntime,
-    row: &Row,
-    length: usize,
-    status: u8,
-    lock: u8,
-) -> anyhow::Result<()> {
+fn ask<P: Part>(rt: &HostRuntime, row: &Row) -> anyhow::Result<()> {
+    let Over(_, length, status, lock) = row.1;
     let mut bytes = vec![in rt.alloc(); 0u8; length]?;
     lay_part::<P>(bytes.as_mut_slice(), status, lock);
     let mut image = Image::new(bytes.as_mut_slice());
@@ -105,10 +100,10 @@ fn ask<P: Part>(
 }
 
 fn run_row(rt: &HostRuntime, row: &Row) -> anyhow::Result<()> {
-    match row.1 {
-        Over::Bench(length, status, lock) => ask::<Bench>(rt, row, length, status, lock),
-        Over::Cm01(length, status, lock) => ask::<Cm01>(rt, row, length, status, lock),
-        Over::Cm02(length, status, lock) => ask::<Cm02>(rt, row, length, status, lock),
+    match row.1.0 {
+        Kind::Bench => ask::<Bench>(rt, row),
+        Kind::Cm01 => ask::<Cm01>(rt, row),
+        Kind::Cm02 => ask::<Cm02>(rt, row),
     }
 }
 

@@ -1,13 +1,16 @@
 // Single calls on chips over images of their own.
 
-// A part, the length of its image, and its status and lock cell. A struct with a part's name is no plainer: each variant
-// is a call at another type.
+// A part's name.
 #[derive(Clone, Copy)]
-pub enum Over {
-    Bench(usize, u8, u8),
-    Cm01(usize, u8, u8),
-    Cm02(usize, u8, u8),
+pub enum Kind {
+    Bench,
+    Cm01,
+    Cm02,
 }
+
+// A part, the length of its image, and its status and lock cell.
+#[derive(Clone, Copy)]
+pub struct Over(pub Kind, pub usize, pub u8, pub u8);
 
 // A call: an event's kind and level, a capture's records and the room for its answers, a page copy's page, the length of
 // its buffer, and the place in it.
@@ -22,7 +25,7 @@ pub enum Ask {
 #[derive(Clone, Copy)]
 pub struct Row(pub &'static str, pub Over, pub &'static [u8], pub Ask);
 
-const GOOD: Over = Over::Bench(4370, 0, 0);
+const GOOD: Over = Over(Kind::Bench, 4370, 0, 0);
 
 const EMPTY: Ask = Ask::Capture(&[], 0);
 
@@ -65,161 +68,186 @@ const PAGE_WRITTEN: &[u8] =
 
 pub static TABLE: [Row; 144] = [
     // Making: the backing's length. Equal is long enough, more is fine.
-    Row("len-0", Over::Bench(0, 0, 0), NONE, EMPTY),
-    Row("len-1", Over::Bench(1, 0, 0), NONE, EMPTY),
-    Row("len-4368", Over::Bench(4368, 0, 0), NONE, EMPTY),
-    Row("len-4369", Over::Bench(4369, 0, 0), NONE, EMPTY),
+    Row("len-0", Over(Kind::Bench, 0, 0, 0), NONE, EMPTY),
+    Row("len-1", Over(Kind::Bench, 1, 0, 0), NONE, EMPTY),
+    Row("len-4368", Over(Kind::Bench, 4368, 0, 0), NONE, EMPTY),
+    Row("len-4369", Over(Kind::Bench, 4369, 0, 0), NONE, EMPTY),
     Row("len-4370", GOOD, NONE, EMPTY),
-    Row("len-4371", Over::Bench(4371, 0, 0), NONE, EMPTY),
+    Row("len-4371", Over(Kind::Bench, 4371, 0, 0), NONE, EMPTY),
     // Making: the status cell. Bits 7, 3 and 2 are lawful, no other is.
-    Row("status-10", Over::Bench(4370, 0x10, 0), NONE, EMPTY),
-    Row("status-8d", Over::Bench(4370, 0x8D, 0), NONE, EMPTY),
-    Row("status-8c", Over::Bench(4370, 0x8C, 0), NONE, EMPTY),
-    Row("status-80", Over::Bench(4370, 0x80, 0), NONE, EMPTY),
-    Row("status-08", Over::Bench(4370, 8, 0), NONE, EMPTY),
-    Row("status-04", Over::Bench(4370, 4, 0), NONE, EMPTY),
-    Row("status-01", Over::Bench(4370, 1, 0), NONE, EMPTY),
-    Row("status-02", Over::Bench(4370, 2, 0), NONE, EMPTY),
-    Row("status-20", Over::Bench(4370, 0x20, 0), NONE, EMPTY),
-    Row("status-40", Over::Bench(4370, 0x40, 0), NONE, EMPTY),
-    Row("status-ff", Over::Bench(4370, 0xFF, 0), NONE, EMPTY),
+    Row("status-10", Over(Kind::Bench, 4370, 0x10, 0), NONE, EMPTY),
+    Row("status-8d", Over(Kind::Bench, 4370, 0x8D, 0), NONE, EMPTY),
+    Row("status-8c", Over(Kind::Bench, 4370, 0x8C, 0), NONE, EMPTY),
+    Row("status-80", Over(Kind::Bench, 4370, 0x80, 0), NONE, EMPTY),
+    Row("status-08", Over(Kind::Bench, 4370, 8, 0), NONE, EMPTY),
+    Row("status-04", Over(Kind::Bench, 4370, 4, 0), NONE, EMPTY),
+    Row("status-01", Over(Kind::Bench, 4370, 1, 0), NONE, EMPTY),
+    Row("status-02", Over(Kind::Bench, 4370, 2, 0), NONE, EMPTY),
+    Row("status-20", Over(Kind::Bench, 4370, 0x20, 0), NONE, EMPTY),
+    Row("status-40", Over(Kind::Bench, 4370, 0x40, 0), NONE, EMPTY),
+    Row("status-ff", Over(Kind::Bench, 4370, 0xFF, 0), NONE, EMPTY),
     // Making: the lock cell. 0 and 1 are lawful.
-    Row("lock-1", Over::Bench(4370, 0, 1), NONE, EMPTY),
-    Row("lock-2", Over::Bench(4370, 0, 2), NONE, EMPTY),
-    Row("lock-80", Over::Bench(4370, 0, 0x80), NONE, EMPTY),
-    Row("lock-ff", Over::Bench(4371, 0, 0xFF), NONE, EMPTY),
-    Row("lock-1-status-8c", Over::Bench(4370, 0x8C, 1), NONE, EMPTY),
+    Row("lock-1", Over(Kind::Bench, 4370, 0, 1), NONE, EMPTY),
+    Row("lock-2", Over(Kind::Bench, 4370, 0, 2), NONE, EMPTY),
+    Row("lock-80", Over(Kind::Bench, 4370, 0, 0x80), NONE, EMPTY),
+    Row("lock-ff", Over(Kind::Bench, 4371, 0, 0xFF), NONE, EMPTY),
+    Row(
+        "lock-1-status-8c",
+        Over(Kind::Bench, 4370, 0x8C, 1),
+        NONE,
+        EMPTY,
+    ),
     // Making: two defects at once. 1 before 2, 2 before 3.
-    Row("short-and-status", Over::Bench(4369, 0x10, 0), NONE, EMPTY),
-    Row("status-and-lock", Over::Bench(4370, 0x10, 2), NONE, EMPTY),
-    Row("status-8d-lock-1", Over::Bench(4370, 0x8D, 1), NONE, EMPTY),
-    Row("status-8c-lock-2", Over::Bench(4370, 0x8C, 2), NONE, EMPTY),
+    Row(
+        "short-and-status",
+        Over(Kind::Bench, 4369, 0x10, 0),
+        NONE,
+        EMPTY,
+    ),
+    Row(
+        "status-and-lock",
+        Over(Kind::Bench, 4370, 0x10, 2),
+        NONE,
+        EMPTY,
+    ),
+    Row(
+        "status-8d-lock-1",
+        Over(Kind::Bench, 4370, 0x8D, 1),
+        NONE,
+        EMPTY,
+    ),
+    Row(
+        "status-8c-lock-2",
+        Over(Kind::Bench, 4370, 0x8C, 2),
+        NONE,
+        EMPTY,
+    ),
     // Making comes before the rows of the call itself: an event, ...
     Row(
         "unfit-1-event",
-        Over::Bench(4369, 0, 0),
+        Over(Kind::Bench, 4369, 0, 0),
         NONE,
         Ask::Event(0, 0),
     ),
     Row(
         "unfit-2-event",
-        Over::Bench(4370, 0x8D, 0),
+        Over(Kind::Bench, 4370, 0x8D, 0),
         NONE,
         Ask::Event(0, 0),
     ),
     Row(
         "unfit-3-event",
-        Over::Bench(4370, 0, 2),
+        Over(Kind::Bench, 4370, 0, 2),
         NONE,
         Ask::Event(0, 0),
     ),
     Row(
         "unfit-1-event-bad",
-        Over::Bench(0, 0, 0),
+        Over(Kind::Bench, 0, 0, 0),
         NONE,
         Ask::Event(7, 9),
     ),
     Row(
         "unfit-2-event-bad",
-        Over::Bench(4370, 0x10, 0),
+        Over(Kind::Bench, 4370, 0x10, 0),
         NONE,
         Ask::Event(0, 2),
     ),
     Row(
         "unfit-3-event-bad",
-        Over::Bench(4370, 0, 2),
+        Over(Kind::Bench, 4370, 0, 2),
         NONE,
         Ask::Event(5, 0),
     ),
     // ... a capture of odd length, one with too little room, one with a bad record, ...
     Row(
         "unfit-1-odd",
-        Over::Bench(4369, 0, 0),
+        Over(Kind::Bench, 4369, 0, 0),
         NONE,
         Ask::Capture(&[0, 0, 7], 9),
     ),
     Row(
         "unfit-2-odd",
-        Over::Bench(4370, 0x10, 0),
+        Over(Kind::Bench, 4370, 0x10, 0),
         NONE,
         Ask::Capture(&[0, 0, 7], 9),
     ),
     Row(
         "unfit-3-odd",
-        Over::Bench(4370, 0, 2),
+        Over(Kind::Bench, 4370, 0, 2),
         NONE,
         Ask::Capture(&[7], 0),
     ),
     Row(
         "unfit-1-room",
-        Over::Bench(0, 0, 0),
+        Over(Kind::Bench, 0, 0, 0),
         NONE,
         Ask::Capture(&[0, 0, 0, 1], 1),
     ),
     Row(
         "unfit-2-room",
-        Over::Bench(4370, 0x8D, 0),
+        Over(Kind::Bench, 4370, 0x8D, 0),
         NONE,
         Ask::Capture(&[0, 0, 0, 1], 1),
     ),
     Row(
         "unfit-3-room",
-        Over::Bench(4370, 0x8C, 2),
+        Over(Kind::Bench, 4370, 0x8C, 2),
         NONE,
         Ask::Capture(&[0, 0, 0, 1], 0),
     ),
     Row(
         "unfit-1-record",
-        Over::Bench(4369, 0, 0),
+        Over(Kind::Bench, 4369, 0, 0),
         NONE,
         Ask::Capture(&[0, 0, 7, 9], 2),
     ),
     Row(
         "unfit-2-record",
-        Over::Bench(4370, 0x10, 2),
+        Over(Kind::Bench, 4370, 0x10, 2),
         NONE,
         Ask::Capture(&[0, 0, 7, 9], 2),
     ),
     Row(
         "unfit-3-record",
-        Over::Bench(4371, 0, 2),
+        Over(Kind::Bench, 4371, 0, 2),
         NONE,
         Ask::Capture(&[0, 0, 7, 9], 2),
     ),
     // ... a page copy that is good, and one that is not.
     Row(
         "unfit-1-copy",
-        Over::Bench(4369, 0, 0),
+        Over(Kind::Bench, 4369, 0, 0),
         NONE,
         Ask::Copy(0, 256, 0),
     ),
     Row(
         "unfit-2-copy",
-        Over::Bench(4370, 0x10, 0),
+        Over(Kind::Bench, 4370, 0x10, 0),
         NONE,
         Ask::Copy(0, 256, 0),
     ),
     Row(
         "unfit-3-copy",
-        Over::Bench(4370, 0, 2),
+        Over(Kind::Bench, 4370, 0, 2),
         NONE,
         Ask::Copy(0, 256, 0),
     ),
     Row(
         "unfit-1-copy-bad",
-        Over::Bench(0, 0, 0),
+        Over(Kind::Bench, 0, 0, 0),
         NONE,
         Ask::Copy(16, 0, 1),
     ),
     Row(
         "unfit-2-copy-bad",
-        Over::Bench(4370, 0x8D, 0),
+        Over(Kind::Bench, 4370, 0x8D, 0),
         NONE,
         Ask::Copy(16, 256, 0),
     ),
     Row(
         "unfit-3-copy-bad",
-        Over::Bench(4370, 0, 2),
+        Over(Kind::Bench, 4370, 0, 2),
         NONE,
         Ask::Copy(0, 255, 0),
     ),
@@ -298,14 +326,14 @@ pub static TABLE: [Row; 144] = [
     Row("page-15", GOOD, NONE, Ask::Copy(15, 256, 0)),
     Row(
         "page-15-longer-image",
-        Over::Bench(4371, 0x8C, 1),
+        Over(Kind::Bench, 4371, 0x8C, 1),
         NONE,
         Ask::Copy(15, 256, 0),
     ),
     Row("page-16", GOOD, NONE, Ask::Copy(16, 256, 0)),
     Row(
         "page-16-longer-image",
-        Over::Bench(9000, 0, 0),
+        Over(Kind::Bench, 9000, 0, 0),
         NONE,
         Ask::Copy(16, 256, 0),
     ),
@@ -364,7 +392,7 @@ pub static TABLE: [Row; 144] = [
     Row("cycle-page-15", GOOD, WRITING_PAGE, Ask::Copy(15, 256, 0)),
     Row(
         "cycle-srwd",
-        Over::Bench(4370, 0x8C, 1),
+        Over(Kind::Bench, 4370, 0x8C, 1),
         WRITING_STATUS,
         Ask::Copy(0, 256, 0),
     ),
@@ -394,7 +422,7 @@ pub static TABLE: [Row; 144] = [
     Row("copy-enabled", GOOD, ENABLED, Ask::Copy(0, 256, 0)),
     Row(
         "protected-no-cycle",
-        Over::Bench(4370, 0x0C, 0),
+        Over(Kind::Bench, 4370, 0x0C, 0),
         WRITING_PAGE,
         Ask::Copy(5, 256, 0),
     ),
@@ -404,35 +432,55 @@ pub static TABLE: [Row; 144] = [
     Row("copy-written", GOOD, PAGE_WRITTEN, Ask::Copy(5, 258, 1)),
     Row("copy-not-written", GOOD, PAGE_WRITTEN, Ask::Copy(4, 256, 0)),
     // The makers' parts: the same by their own numbers.
-    Row("cm01-one-short", Over::Cm01(131345, 0, 0), NONE, EMPTY),
-    Row("cm01-exact", Over::Cm01(131346, 0, 0), NONE, EMPTY),
-    Row("cm01-status", Over::Cm01(131346, 0x10, 2), NONE, EMPTY),
-    Row("cm01-lock", Over::Cm01(131346, 0x8C, 2), NONE, EMPTY),
+    Row(
+        "cm01-one-short",
+        Over(Kind::Cm01, 131345, 0, 0),
+        NONE,
+        EMPTY,
+    ),
+    Row("cm01-exact", Over(Kind::Cm01, 131346, 0, 0), NONE, EMPTY),
+    Row(
+        "cm01-status",
+        Over(Kind::Cm01, 131346, 0x10, 2),
+        NONE,
+        EMPTY,
+    ),
+    Row("cm01-lock", Over(Kind::Cm01, 131346, 0x8C, 2), NONE, EMPTY),
     Row(
         "cm01-page-511",
-        Over::Cm01(131346, 0, 0),
+        Over(Kind::Cm01, 131346, 0, 0),
         NONE,
         Ask::Copy(511, 256, 0),
     ),
     Row(
         "cm01-page-512",
-        Over::Cm01(131346, 0, 0),
+        Over(Kind::Cm01, 131346, 0, 0),
         NONE,
         Ask::Copy(512, 256, 0),
     ),
-    Row("cm02-one-short", Over::Cm02(262417, 0, 0), NONE, EMPTY),
-    Row("cm02-exact", Over::Cm02(262418, 0, 0), NONE, EMPTY),
-    Row("cm02-status", Over::Cm02(262418, 0x8D, 2), NONE, EMPTY),
-    Row("cm02-lock", Over::Cm02(262418, 0, 2), NONE, EMPTY),
+    Row(
+        "cm02-one-short",
+        Over(Kind::Cm02, 262417, 0, 0),
+        NONE,
+        EMPTY,
+    ),
+    Row("cm02-exact", Over(Kind::Cm02, 262418, 0, 0), NONE, EMPTY),
+    Row(
+        "cm02-status",
+        Over(Kind::Cm02, 262418, 0x8D, 2),
+        NONE,
+        EMPTY,
+    ),
+    Row("cm02-lock", Over(Kind::Cm02, 262418, 0, 2), NONE, EMPTY),
     Row(
         "cm02-page-1023",
-        Over::Cm02(262418, 0, 0),
+        Over(Kind::Cm02, 262418, 0, 0),
         NONE,
         Ask::Copy(1023, 256, 0),
     ),
     Row(
         "cm02-page-1024",
-        Over::Cm02(262418, 0, 0),
+        Over(Kind::Cm02, 262418, 0, 0),
         NONE,
         Ask::Copy(1024, 256, 0),
     ),
