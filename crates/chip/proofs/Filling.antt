@@ -1,7 +1,7 @@
 -- A part of a buffer filled from a row, byte by byte.
-use Rattle.std.proofs.Common.{◌≡◌, ℕ, ◌+◌, ◌/◌, ◌<◌, ◌≤◌, Bool, true, false, ltb, List, [], ◌++◌, length, get_or, take, drop, set, Some, None, Ok, Option, sym, ap, ◌∙◌, arith}
+use Rattle.std.proofs.Common.{◌≡◌, ℕ, ◌+◌, ◌/◌, ◌<◌, ◌≤◌, Bool, true, false, ltb, List, [], ◌++◌, length, take, drop, Some, None, Ok, Option, sym, ap, ◌∙◌}
 use borrow.Rule.Slice.PartMut.{put_mid}
-use Rattle.std.proofs.lemmas.List.{take_more, take_more_set, take_all, drop-drop, get_or-drop, length-drop, length-take-le}
+use Rattle.std.proofs.lemmas.List.{drop-drop, length-take-le}
 use Rattle.std.proofs.lemmas.Bool.{lt-ltb, le-ltb}
 use Rattle.backing.specs.declared.refusal.Refusal.{Refusal}
 use Rattle.backing.specs.declared.refusal.Refusal.TheVariants.{NoSuchPage, ShortBuffer, CycleRunning}
@@ -18,19 +18,6 @@ long_cells p row h = length-take-le (cell_count p) row h
 -- the bytes of out up to i are those of a row from a place on
 pub record Filled (row : List ℕ) (from : ℕ) (out : List ℕ) (i : ℕ) : Type 0 where
   pub so_far : take i out ≡ take i (drop from row)
-
-pub filled_more : (row : List ℕ) (from : ℕ) (out : List ℕ) (i b : ℕ) → i < length out → from + i < length row → b ≡ get_or row (from + i) 0 → Filled row from out i → Filled row from (set out i b) (i + 1)
-filled_more row from out i b h k e m =
-    let l : i < length (drop from row) = omega (arith, length-drop from row) in
-    let f = m.so_far in
-    let p = take_more_set out i b h in
-    let q = take_more (drop from row) i 0 l in
-    let r : b ≡ get_or (drop from row) i 0 = e ∙ sym (get_or-drop from row i 0) in
-    record { so_far = cc }
-
-pub filled_all : (row : List ℕ) (from : ℕ) (out : List ℕ) (i n : ℕ) → i ≡ n → length out ≡ n → Filled row from out i → out ≡ take n (drop from row)
-filled_all row from out i n e l m =
-    sym (take_all n out (omega arith)) ∙ ap (λ k. take k out) (sym e) ∙ m.so_far ∙ ap (λ k. take k (drop from row)) e
 
 -- what the lent part of a buffer leaves
 pub laid_mid : (at k n : ℕ) (old bytes new : List ℕ) → k ≡ n → new ≡ bytes → put_mid at k old new ≡ take at old ++ (bytes ++ drop (at + n) old)
