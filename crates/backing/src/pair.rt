@@ -22,6 +22,7 @@ impl<A: Backing, B: Backing> Pair<A, B> {
     }
 }
 
+// `get` and `put` split a place alike: a function that answers the side would only be matched on again.
 impl<A: Backing, B: Backing> Backing for Pair<A, B> {
     ghost row = { λ s. paired (A.Backing.row s.a) (B.Backing.row s.b) };
 

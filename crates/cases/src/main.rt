@@ -1,7 +1,7 @@
 // Runs captures on delivered bench parts, each under its name, and then the single calls of a table.
 #![tactic(auto)]
 
-use anyhow::anyhow;
+use anyhow::Context;
 use backing::fault::Fault;
 use backing::image::Image;
 use backing::row::Backing;
@@ -109,9 +109,10 @@ fn run_row(rt: &HostRuntime, row: &Row) -> anyhow::Result<()> {
 
 // One line of the index: a capture's name, and what it shows.
 fn run_case(rt: &HostRuntime, line: &str, text: &mut [u8]) -> anyhow::Result<()> {
-    let Some(name) = line.split(':').next() else {
-        return Err(anyhow!("an empty line in the index"));
-    };
+    let name = line
+        .split(':')
+        .next()
+        .context("an empty line in the index")?;
     let path = format!(in rt.alloc(); "{name}.cap")?;
     let input = fs::read(rt, path.as_str())?;
     println!(rt; "{line}")?;

@@ -1,5 +1,5 @@
 -- A capture taken record by record.
-use Rattle.std.proofs.Common.{◌≡◌, ℕ, zero, suc, ◌+◌, ◌*◌, ◌/◌, ◌<◌, ◌≤◌, List, [], ◌∷◌, ◌++◌, map, length, get_or, take, drop, set, Ok, Err, Result, sym, refl, ap, ◌∙◌, append_assoc, zero-add, lit<, arith}
+use Rattle.std.proofs.Common.{◌≡◌, ℕ, zero, suc, ◌+◌, ◌*◌, ◌/◌, ◌<◌, ◌≤◌, List, [], ◌∷◌, ◌++◌, map, length, get_or, take, drop, set, Ok, Err, Result, sym, ap, ◌∙◌, append_assoc, zero-add, lit<, arith}
 use base.Fml.{GName}
 use Rattle.std.proofs.lemmas.List.{get_or-take, get_or-drop, drop_more, drop_all, take_more_set, drop-set-lt, drop-drop, append-nil, length-take-le, length-map, take-append-drop}
 use Rattle.std.specs.Simd.{first_chunks}
@@ -12,9 +12,6 @@ use Rattle.rules.specs.Rules.{View, Done, taken, refused, step, after, seen}
 use Rattle.rules.specs.Calls.{Outcome, with_level, records, written}
 use Rattle.chip.specs.Answers.{answered}
 use Rattle.chip.specs.Shows.{Kept}
-
-pub kept_same : {B : Type 0} (p : Shape) (row past : B → List ℕ) (held : B → List GName) (x : B) → Kept p row past held x x
-kept_same p row past held x = record { same_held = refl; same_past = refl; same_length = refl; same_rest = refl }
 
 pub kept_on : {B : Type 0} (p : Shape) (row past : B → List ℕ) (held : B → List GName) (x y z : B) → Kept p row past held x y → Kept p row past held y z → Kept p row past held x z
 kept_on p row past held x y z a b =
@@ -60,9 +57,6 @@ pub record Midway (p : Shape) (v₀ v : View) (recs old new : List ℕ) (i : ℕ
   pub says : (records p v₀ 0 recs).says ≡ (records p v i (drop (2 * i) recs)).says
   pub levels : map level_number (records p v₀ 0 recs).levels ≡ take i new ++ map level_number (records p v i (drop (2 * i) recs)).levels
   pub rest : drop i new ≡ drop i old
-
-pub midway_none : (p : Shape) (v : View) (recs old : List ℕ) → Midway p v v recs old old 0
-midway_none p v recs old = record { view = refl; says = refl; levels = refl; rest = refl }
 
 drop_two : (recs : List ℕ) (i : ℕ) → 2 * i + 1 < length recs → drop (2 * i) recs ≡ get_or recs (2 * i) 0 ∷ get_or recs (2 * i + 1) 0 ∷ drop (2 * (i + 1)) recs
 drop_two recs i h =

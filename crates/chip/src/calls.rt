@@ -40,7 +40,8 @@ impl<'a, P: Part, B: Backing> Chip<'a, P, B> {
         }
     }
 
-    // An event: making's refusals come first.
+    // An event of two bytes, as C has them: making's refusals come first. `lent` and `kept` stay on each call: a model of the
+    // chip would show the backing whole beside the view, so that no clause would be shorter.
     pub fn event(&mut self, kind: u8, level: u8) -> Result<Level, Fault>
         ensures says { numbered result ≡ (outcome P.shape (view_of P.shape B.Backing.row self.old) (an_event kind level)).says }
         ensures view { view_of P.shape B.Backing.row self.new ≡ (outcome P.shape (view_of P.shape B.Backing.row self.old) (an_event kind level)).view }

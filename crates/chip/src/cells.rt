@@ -31,7 +31,7 @@ impl<'c, P: Part, B: Backing> Model for Cells<'c, P, B> {
     ghost invariant = { λ c. cell_count P.shape ≤ length (B.Backing.row c.backing.now) };
 }
 
-// Whether the status and the lock cell may be so.
+// Whether the status and the lock cell may be so. They stay two bytes: a struct of them would be taken apart at once.
 fn judge_cells(status: u8, lock: u8) -> Result<(), Refusal>
     ensures { result ≡ passed (unlawful status lock) }
 {
@@ -62,7 +62,7 @@ impl<'c, P: Part, B: Backing> Cells<'c, P, B> {
         Ok(cells)
     }
 
-    // The cells of a backing that has them all.
+    // The cells of a backing that has them all. `of` writes this out, since a call would hide the backing from its proof.
     pub(crate) fn new(backing: &'c B) -> Cells<'c, P, B>
         requires { cell_count P.shape ≤ length (B.Backing.row backing.now) }
         ensures { result ≡ cells_of P.shape (B.Backing.row backing.now) }
@@ -82,7 +82,7 @@ impl<'c, P: Part, B: Backing> Cells<'c, P, B> {
         self.backing.get(place)
     }
 
-    // The first byte that a write to this target may reach: the whole of the status and of the lock cell.
+    // The byte of the first cell that a write to this target, at address 0, may reach.
     pub(crate) fn first(&self, target: Target) -> Result<u8, Fault>
         ensures { result ≡ Ok (slice_index self.now (base P.shape target 0)) }
     {

@@ -12,7 +12,7 @@ use backing::refusal::Refusal;
 use backing::row::Backing;
 
 impl<'a, P: Part, B: Backing> Chip<'a, P, B> {
-    // Copies a page of the array to the buffer, from place `at` on.
+    // Copies a page of the array to the buffer, from place `at` on. No heap: the buffer is the caller's, as C has it.
     pub fn page_copy(&self, page: usize, buffer: &mut [u8], at: usize) -> Result<usize, Fault>
         ensures says { result ≡ (outcome P.shape (view_of P.shape B.Backing.row self.now) (copying page at (length buffer.old))).says }
         ensures buffer { buffer.new ≡ copied result (page_in (cells_of P.shape (B.Backing.row self.now.backing.now)) page) at buffer.old }

@@ -11,7 +11,7 @@ const STATUS: usize = 4368;
 
 const UNIQUE_ID: [u8; 16] = [0, 1, 2, 3, 4, 5, 6, 7, 8, 9, 10, 11, 12, 13, 14, 15];
 
-// FFh in array and identification page, 00h to 0Fh as unique ID, 0 in the status and the lock cell.
+// Fixed memory: an array of the caller's, and no heap. FFh in array and identification page, 00h to 0Fh as unique ID, 0 in the status and the lock cell.
 pub fn deliver(cells: &mut [u8; CELLS])
     ensures { cells.new ≡ delivered }
 {

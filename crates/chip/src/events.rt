@@ -36,8 +36,9 @@ impl Unit {
 }
 
 // What is asked here of the backing stays a `requires`: a struct that lends a chip and keeps that fact as its ghost field
-// was tried, and its proof did not close, since what a field behind a `&mut` lends is not covered. A backing's faults pass
-// up by `?`, though none comes.
+// was tried, and its proof did not close, since what a field behind a `&mut` lends is not covered. That a result is `Ok`
+// stays a clause, here and where cells are read and laid: by a rule of ours a backing's faults pass up by `?`, though none
+// comes.
 impl<'a, P: Part, B: Backing> Chip<'a, P, B> {
     fn cycle_end(&mut self) -> Result<(), Fault>
         requires { cell_count P.shape ≤ length (B.Backing.row self.old.backing.now) }
@@ -114,9 +115,9 @@ impl<'a, P: Part, B: Backing> Chip<'a, P, B> {
                 self.unit.pins.clock = true;
             }
             (_, Event::Clock(true)) => self.unit.pins.clock = true,
-            (_, Event::Clock(false)) => return self
-                .unit
-                .clock_fall(&Cells::<P, B>::new(self.backing)),
+            (_, Event::Clock(false)) => {
+                return self.unit.clock_fall(&Cells::<P, B>::new(self.backing));
+            }
             (_, Event::Data(level)) => self.unit.pins.input = level,
             (_, Event::Protect(level)) => self.unit.pins.protect = level,
             (_, Event::Hold(level)) if self.unit.pins.clock => self.unit.pins.hold = level,

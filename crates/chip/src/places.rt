@@ -61,8 +61,7 @@ pub(crate) fn reach_of<P: Part>(target: Target) -> usize
     match target {
         Target::Array => 256,
         Target::Ident => P::IDENT_PAGE.length() as usize,
-        Target::Status => 1,
-        Target::Lock => 1,
+        Target::Status | Target::Lock => 1,
     }
 }
 

@@ -8,10 +8,7 @@ use std::io::Write;
 use std::{env, fs};
 
 fn load(rt: &HostRuntime, path: &str) -> anyhow::Result<Vec<u8>> {
-    match fs::read(rt, path) {
-        Ok(bytes) => Ok(bytes),
-        Err(error) => Err(anyhow!(format!(in rt.alloc(); "{path}: {error}")?)),
-    }
+    fs::read(rt, path).try_map_err(|error| Ok(anyhow!(format!(in rt.alloc(); "{path}: {error}")?)))
 }
 
 fn main(rt: HostRuntime) -> anyhow::Result<()> {

@@ -63,6 +63,7 @@ pub fn compare(first: &[u8], second: &[u8], answers: &mut [u8]) -> Report
     ensures made { is_ok result.comparison ≡ true }
     ensures answers { answers.new ≡ written (ran second.now (length answers.old)).levels (written (ran first.now (length answers.old)).levels answers.old) }
 {
+    // Fixed memory: a chip needs no heap.
     let mut whole = [0u8; CELLS];
     deliver(&mut whole);
     let mut parted = whole;

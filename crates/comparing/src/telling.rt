@@ -9,6 +9,7 @@ use backing::fault::Fault;
 use chip::sameness::Comparison;
 use text::writer::Writer;
 
+// The words of a refusal stand in `edges_text` too, and the two clauses on the writer in three functions: see there.
 fn capture_line<'a>(writer: &mut Writer<'a>, whose: &[u8], answer: Result<usize, Fault>)
     ensures holds { (b t : List ℕ) → Holds b t writer.old → Holds b (t ++ capture_line whose.now answer) writer.new }
     ensures kept { writer.new.out.ghost_name ≡ writer.old.out.ghost_name }
@@ -56,7 +57,8 @@ fn comparison_line<'a>(writer: &mut Writer<'a>, answer: Result<Comparison, Fault
     }
 }
 
-// Lays the report's three lines, cut off at the buffer's end; answers how many bytes it wrote.
+// Lays the report's three lines, cut off at the buffer's end; answers how many bytes it wrote. No heap: the buffer is the
+// caller's.
 pub fn tell(out: &mut [u8], report: &Report) -> usize
     ensures fills { Fills out.old (told report.now) result out.new }
     ensures short { length (told report.now) ≤ 192 }

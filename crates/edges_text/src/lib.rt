@@ -10,12 +10,10 @@ ghost use Rattle.text.specs.Writers.{Holds};
 ghost use Rattle.edges_text.specs.Edges.{letter, fault_text, lines, taken_of, ran, edges_of};
 
 use backing::fault::Fault;
-use backing::image::Image;
 use backing::refusal::Refusal;
-use backing::row::Backing;
+use chip::client::run_on_bytes;
 use chip::delivered::{CELLS, deliver};
 use chip::part::Bench;
-use chip::unit::Chip;
 use text::writer::Writer;
 
 // The most bytes that an input may have, and the records in them.
@@ -28,11 +26,10 @@ fn run(input: &[u8], answers: &mut [u8; RECORDS]) -> Result<usize, Fault>
     ensures says { result ≡ (ran input.now).says }
     ensures answers { answers.new ≡ written (ran input.now).levels answers.old }
 {
+    // Fixed memory: the text needs no heap.
     let mut cells = [0u8; CELLS];
     deliver(&mut cells);
-    let mut image = Image::new(&mut cells);
-    let mut chip: Chip<Bench, Image> = Chip::new(&mut image);
-    chip.capture(input, answers)
+    run_on_bytes::<Bench>(&mut cells, input, answers)
 }
 
 // How many records were taken.
@@ -62,7 +59,8 @@ fn spell(answers: &mut [u8])
     }
 }
 
-// Lays the fault's line, if there is a fault. A report has a line like it; no crate below both knows faults and text.
+// Lays the fault's line, if there is a fault. A report has a line like it: one function for both is no plainer, since it
+// would make a crate of text depend on faults. What it does to the writer stays two clauses, on its text and on its buffer.
 fn fault_line<'a>(writer: &mut Writer<'a>, says: Result<usize, Fault>)
     ensures holds { (b t : List ℕ) → Holds b t writer.old → Holds b (t ++ fault_text says) writer.new }
     ensures kept { writer.new.out.ghost_name ≡ writer.old.out.ghost_name }
@@ -76,7 +74,8 @@ fn fault_line<'a>(writer: &mut Writer<'a>, says: Result<usize, Fault>)
     }
 }
 
-// Lays line one and the fault's line, cut off at the buffer's end; answers how many bytes it wrote.
+// Lays line one and the fault's line, cut off at the buffer's end; answers how many bytes it wrote. No heap, here and in
+// `edges`: the buffer is the caller's.
 fn tell(out: &mut [u8], letters: &[u8], says: Result<usize, Fault>) -> usize
     ensures { Fills out.old (lines letters.now says) result out.new }
 {
@@ -94,7 +93,6 @@ pub fn edges(input: &[u8], out: &mut [u8]) -> usize
     if input.len() > MOST {
         return tell(out, &[], Err(Fault::from(Refusal::LongInput)));
     }
-    // Fixed memory: the text needs no heap.
     let mut answers = [0u8; RECORDS];
     let says = run(input, &mut answers);
     let letters = &mut answers[..taken(says)];

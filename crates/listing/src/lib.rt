@@ -25,7 +25,8 @@ fn word(stretch: Stretch) -> &'static [u8]
     }
 }
 
-// A word and two numbers as a line, cut off at the buffer's end; answers how many bytes it wrote.
+// A word and two numbers as a line, cut off at the buffer's end; answers how many bytes it wrote. The buffer is the
+// caller's, here and below: lines are to be had with no heap.
 #[tactic(auto, using(crate::proofs::Lines::row_short))]
 fn row(out: &mut [u8], word: &[u8], first: usize, count: usize) -> usize
     ensures fills { Fills out.old (row_of word.now first count) result out.new }

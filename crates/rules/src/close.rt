@@ -48,7 +48,7 @@ pub(crate) fn opens_status(status: u8, protect: bool) -> bool
     status < 128 || protect
 }
 
-// WRID.
+// WRID. `status` and `lock` stay two bytes, here and below: a struct of them would be taken apart at once.
 pub(crate) fn opens_ident(status: u8, lock: u8) -> bool
     ensures { result ≡ ident_open status lock }
 {

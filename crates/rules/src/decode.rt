@@ -31,7 +31,7 @@ impl TryFrom<(u8, u8)> for Event {
 }
 
 // A pin may not go where it is.
-fn moves(level: bool, goes: bool) -> Result<(), Refusal>
+fn must_move(level: bool, goes: bool) -> Result<(), Refusal>
     ensures { result ≡ passed (there level goes) }
 {
     if level == goes {
@@ -46,11 +46,11 @@ pub fn refuse(off: bool, pins: Pins, running: bool, event: Event) -> Result<(), 
     ensures { result ≡ passed (refused_event off pins.clock pins.input pins.protect pins.hold running event) }
 {
     match event {
-        Event::Select(level) => moves(off, level),
-        Event::Clock(level) => moves(pins.clock, level),
-        Event::Data(level) => moves(pins.input, level),
-        Event::Protect(level) => moves(pins.protect, level),
-        Event::Hold(level) => moves(pins.hold, level),
+        Event::Select(level) => must_move(off, level),
+        Event::Clock(level) => must_move(pins.clock, level),
+        Event::Data(level) => must_move(pins.input, level),
+        Event::Protect(level) => must_move(pins.protect, level),
+        Event::Hold(level) => must_move(pins.hold, level),
         Event::CycleEnd if running => Ok(()),
         Event::CycleEnd => Err(Refusal::NoCycle),
         Event::Power if !off => Err(Refusal::PowerSelected),

@@ -1,6 +1,6 @@
 // What a chip holds besides its cells.
 
-// The output Q by its numbers, or the last bit shifted: none is high impedance.
+// The output Q, by its numbers; of the last bit shifted, high impedance says that there is none.
 #[derive(Clone, Copy)]
 pub enum Level {
     Low = 0,
@@ -79,7 +79,7 @@ pub enum Got {
 }
 
 // A write on its way in. `wel` is the latch at the eighth bit, `start` the raw address, `at` the place in the page of the
-// next byte, `last` that of the page's last, `bit` and `value` the byte being latched.
+// next byte, `last` that of the page's last, `bit` and `value` the byte being latched. The bytes are fixed memory: no heap.
 #[derive(Clone, Copy)]
 pub struct Page {
     pub target: Target,

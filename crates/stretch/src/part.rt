@@ -1,6 +1,7 @@
 // The parts of a capture, and the reader.
 
-// What S does over a part of a capture; each case holds that part's bytes.
+// What S does over a part of a capture; each case holds that part's bytes. A struct of a kind and the bytes is no plainer:
+// who matches on the case has its bytes at hand.
 #[derive(Debug, Clone, Copy, PartialEq, Eq)]
 pub enum Stretch<'a> {
     Quiet(&'a [u8]),

@@ -4,7 +4,7 @@ use super::part::{Placed, Reader, Stretch};
 use std::process::Abort;
 use std::test::Fail;
 
-// Holds the parts of a capture to the parts that it has; the note says what the capture shows.
+// Holds the parts of a capture to those expected; the note says what the capture shows.
 fn expect(rt: &impl Abort, note: &str, capture: &[u8], parts: &[Placed]) -> Result<(), Fail> {
     let mut reader = Reader::new(capture);
     for part in parts {

@@ -8,7 +8,8 @@ pub mod writer;
 
 use itoa::Buffer;
 
-// Lays the text from the place `at` on, and answers how many bytes it wrote.
+// Lays the text from the place `at` on, and answers how many bytes it wrote. No heap, here and below: the buffer is the
+// caller's.
 #[tactic(auto, using(crate::proofs::Laying::laid_cut, crate::proofs::Laying::laid_past))]
 pub fn lay(out: &mut [u8], at: usize, text: &[u8]) -> usize
     ensures lays { Lays out.old at text.now result out.new }

@@ -1,13 +1,13 @@
-use Rattle.std.proofs.Common.{◌≡◌, length, ◌∙◌, rules}
+use Rattle.std.proofs.Common.{◌≡◌, length, refl, rules}
 use Rattle.edges_text.proofs.Delivering.{born_fresh, outcome_ran}
 use Rattle.edges_text.proofs.run.Goals as goal
 
 pub returns : goal.returns
 returns c =
     let room : length c.args.answers.now ≡ 30000 = search rules in
-    let new = born_fresh _ _ c.new-chip.ensures.view (c.new-image.ensures.value ∙ c.deliver.ensures) in
+    let new = born_fresh _ _ refl c.deliver.ensures in
     let same = outcome_ran _ c.args.input.now (length c.args.answers.now) new room in
     record {
-      says = rw (← same) c.capture.ensures.says;
-      answers = rw (← same) c.capture.ensures.answers;
+      says = rw (← same) c.run_on_bytes.ensures.says;
+      answers = rw (← same) c.run_on_bytes.ensures.answers;
     }

@@ -1,18 +1,8 @@
-use Rattle.std.proofs.Common.{◌≡◌, [], length, get_or, Ok, Err, sym, refl, ap, ◌∙◌, arith}
+use Rattle.std.proofs.Common.{◌≡◌, [], length, get_or, Ok, Err, sym, ap, ◌∙◌, arith}
 use Rattle.rules.specs.Rules.{step}
 use Rattle.chip.specs.Shows.{view_of}
-use Rattle.chip.proofs.Capturing.{midway_none, midway_more, ended_refused, ended_all, kept_same, kept_on, pair_step}
+use Rattle.chip.proofs.Capturing.{midway_more, ended_refused, ended_all, kept_on, pair_step}
 use Rattle.chip.proofs.unit.Chip.records.Goals as goal
-
-pub step-requires : goal.step-requires
-step-requires g c = omega (arith, c.loop-i.invariant.2.same_length)
-
-pub loop-i-init : goal.loop-i-init
-loop-i-init g c = (
-  midway_none g.P.Part.shape (view_of g.P.Part.shape g.B.Backing.row c.args.self.now) c.args.records.now c.args.answers.now,
-  refl,
-  kept_same g.P.Part.shape g.B.Backing.row g.B.Backing.past g.B.Backing.held c.args.self.now.backing.now,
-)
 
 pub loop-i-preserved : goal.loop-i-preserved
 loop-i-preserved g c =
