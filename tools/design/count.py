@@ -62,7 +62,7 @@ def show(title, rows):
 
 
 def point1():
-    show("enums", grep(r"^(pub )?enum "))
+    show("enums", grep(r"^(pub(\(crate\))? )?enum "))
     show("functions that answer an optional refusal", grep(r"-> Option<(Refusal|Fault)>"))
     show("fields that are flags", grep(r"^ +pub(\(crate\))? \w+: bool,"))
     show("functions that answer a number for a kind", grep(r"fn \w+\((self|byte: u8|kind: u8.*|answer: u8|status: u8)\) -> (u8|u32|Instruction|Result<Event, Refusal>)"))
