@@ -8,6 +8,7 @@ use super::fault::Fault;
 // The places that an image and a pair count at most.
 pub const PLACES: usize = 1_048_576;
 
+// A place and its byte stay two parameters, as C has them; `held` and `past` stay two facts, each of its own use.
 pub trait Backing {
     ghost row: { Self → List ℕ };
 

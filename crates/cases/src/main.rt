@@ -43,6 +43,7 @@ fn lay_part<P: Part>(bytes: &mut [u8], status: u8, lock: u8) {
     set(bytes, places::base_of::<P>(Target::Lock, 0), lock);
 }
 
+// A `Display` of faults is no plainer: these words are this program's alone.
 fn tell(rt: &HostRuntime, name: &str, says: Result<usize, Fault>) -> anyhow::Result<()> {
     match says {
         Ok(value) => print!(rt; "{name}: value {value}")?,
@@ -73,6 +74,7 @@ fn ask<P: Part>(rt: &HostRuntime, row: &Row) -> anyhow::Result<()> {
     lay_part::<P>(bytes.as_mut_slice(), status, lock);
     let mut image = Image::new(bytes.as_mut_slice());
     let mut chip: Chip<P, Image> = Chip::new(&mut image);
+    // The capture fills its caller's buffer, as C has it.
     let mut answers = [0u8; 200];
     let _ = chip.capture(row.2, &mut answers);
     match row.3 {

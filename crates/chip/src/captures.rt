@@ -33,7 +33,8 @@ impl<'a, P: Part, B: Backing> Chip<'a, P, B> {
         self.records(records, answers)
     }
 
-    // Records up to the first that is refused. Its condition on the backing stays for the reason given beside `apply`.
+    // Records up to the first that is refused. Its condition on the backing stays for the reason given beside `apply`, and
+    // `lent` and `kept` here and above for the one beside `event`.
     fn records(&mut self, records: &[u8], answers: &mut [u8]) -> Result<usize, Fault>
         requires long { cell_count P.shape ≤ length (B.Backing.row self.old.backing.now) }
         requires even { length records.now % 2 ≡ 0 }

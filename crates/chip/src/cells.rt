@@ -103,7 +103,7 @@ impl<'c, P: Part, B: Backing> Cells<'c, P, B> {
         ))
     }
 
-    // Fills `out` with the cells from `from` on.
+    // Fills `out` with the cells from `from` on. Here and in `lay` a backing's faults pass up by `?`, a rule of ours.
     pub(crate) fn fill(&self, from: usize, out: &mut [u8]) -> Result<(), Fault>
         requires { (length out.old ≡ 256) × (from + 256 ≤ cell_count P.shape) }
         ensures made { result ≡ Ok tt }

@@ -12,7 +12,7 @@ use backing::fault::Fault;
 use backing::image::Image;
 use backing::row::Backing;
 
-// Runs a capture on a new chip over any backing.
+// Runs a capture on a new chip over any backing. Records and answers stay two parameters, as C has them.
 fn run_on<P: Part, B: Backing>(
     backing: &mut B,
     records: &[u8],

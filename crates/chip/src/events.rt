@@ -38,7 +38,7 @@ impl Unit {
 // What is asked here of the backing stays a `requires`: a struct that lends a chip and keeps that fact as its ghost field
 // was tried, and its proof did not close, since what a field behind a `&mut` lends is not covered. That a result is `Ok`
 // stays a clause, here and where cells are read and laid: by a rule of ours a backing's faults pass up by `?`, though none
-// comes.
+// comes. `lent` and `kept` stay for the reason given beside `event`.
 impl<'a, P: Part, B: Backing> Chip<'a, P, B> {
     fn cycle_end(&mut self) -> Result<(), Fault>
         requires { cell_count P.shape ≤ length (B.Backing.row self.old.backing.now) }

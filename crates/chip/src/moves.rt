@@ -1,4 +1,5 @@
-// What a fall of C and a rise of S do to a unit, beside the cells that it reads.
+// What a fall of C and a rise of S do to a unit, beside the cells that it reads. That a result is `Ok` stays a clause: by a
+// rule of ours a backing's faults pass up by `?`, though none comes.
 ghost use Rattle.std.specs.Prelude.{◌≡◌, true, is_ok, IfOk, Ok};
 ghost use Rattle.rules.specs.Rules.{falls_c, rises_s};
 ghost use Rattle.chip.specs.Shows.{shown, resting};

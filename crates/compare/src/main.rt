@@ -22,6 +22,7 @@ fn main(rt: HostRuntime) -> anyhow::Result<()> {
     let records = first.len().max(second.len()) / 2;
     let mut answers = vec![in rt.alloc(); 0u8; records]?;
     let report = compare(first.as_slice(), second.as_slice(), answers.as_mut_slice());
+    // The report fills its caller's buffer, as C has it.
     let mut text = [0u8; 192];
     let n = tell(&mut text, &report);
     rt.stdout().write_all(&text[..n])?;

@@ -2,7 +2,7 @@
 
 // What S does over a part of a capture; each case holds that part's bytes. A struct of a kind and the bytes is no plainer:
 // who matches on the case has its bytes at hand.
-#[derive(Debug, Clone, Copy, PartialEq, Eq)]
+#[derive(Clone, Copy, Debug, PartialEq, Eq)]
 pub enum Stretch<'a> {
     Quiet(&'a [u8]),
     Selected(&'a [u8]),
@@ -11,7 +11,7 @@ pub enum Stretch<'a> {
 }
 
 // A stretch with the number of its first record.
-#[derive(Debug, Clone, Copy, PartialEq, Eq)]
+#[derive(Clone, Copy, Debug, PartialEq, Eq)]
 pub struct Placed<'a> {
     pub first: usize,
     pub stretch: Stretch<'a>,
