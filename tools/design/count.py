@@ -109,7 +109,7 @@ def point5():
             where = "%s:%d %s" % (path, line, name)
             for c in clauses(head):
                 seen[re.sub(r"\b(self|backing)\.(old|now)\b", r"_", c)].add(where)
-            params = [p.strip() for p in re.sub(r"\n", " ", head.split(") ->")[0]).split("(", 1)[-1].split(",")]
+            params = [p.strip() for p in re.sub(r"\n", " ", head.split(") ->")[0]).replace("pub(crate)", "pub").split("(", 1)[-1].split(",")]
             params = [p for p in params if ":" in p]
             for i, a in enumerate(params):
                 for b in params[i + 1:]:

@@ -125,6 +125,7 @@ fn run_case(rt: &HostRuntime, line: &str, text: &mut [u8]) -> anyhow::Result<()>
 
 fn main(rt: HostRuntime) -> anyhow::Result<()> {
     let index = fs::read_to_string(&rt, "index")?;
+    // The text of `edges` fills its caller's buffer, as C has it.
     let mut text = vec![in rt.alloc(); 0u8; MOST]?;
     for line in index.as_str().lines() {
         run_case(&rt, line, text.as_mut_slice())?;

@@ -62,7 +62,8 @@ impl<'c, P: Part, B: Backing> Cells<'c, P, B> {
         Ok(cells)
     }
 
-    // The cells of a backing that has them all. `of` writes this out, since a call would hide the backing from its proof.
+    // The cells of a backing that has them all, which `apply` knows from its own condition: see there. `of` writes this out,
+    // since a call would hide the backing from its proof.
     pub(crate) fn new(backing: &'c B) -> Cells<'c, P, B>
         requires { cell_count P.shape ≤ length (B.Backing.row backing.now) }
         ensures { result ≡ cells_of P.shape (B.Backing.row backing.now) }

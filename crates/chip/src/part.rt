@@ -8,7 +8,8 @@ ghost use Rattle.std.proofs.Common.{lit≤, inr};
 
 use rules::state::IdentPage;
 
-// Three impls: one over a const parameter could not show that every width is lawful.
+// Three impls, of constants alone: one over a const parameter is no plainer, since an impl for every width could not show
+// that each is lawful.
 pub trait Part {
     const ADDRESS_BITS: u32;
 

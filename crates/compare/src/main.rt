@@ -20,6 +20,7 @@ fn main(rt: HostRuntime) -> anyhow::Result<()> {
     let first = load(&rt, first.as_str())?;
     let second = load(&rt, second.as_str())?;
     let records = first.len().max(second.len()) / 2;
+    // The captures fill their caller's buffer, as C has it.
     let mut answers = vec![in rt.alloc(); 0u8; records]?;
     let report = compare(first.as_slice(), second.as_slice(), answers.as_mut_slice());
     // The report fills its caller's buffer, as C has it.

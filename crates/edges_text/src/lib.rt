@@ -59,8 +59,9 @@ fn spell(answers: &mut [u8])
     }
 }
 
-// Lays the fault's line, if there is a fault. A report has a line like it: one function for both is no plainer, since it
-// would make a crate of text depend on faults. What it does to the writer stays two clauses, on its text and on its buffer.
+// Lays the fault's line, if there is a fault. A report has a line like it: one function for both is no plainer, since only
+// `text` lies below both, and would then depend on faults. What it does to the writer stays two clauses, on its text and on
+// its buffer: a record of the two would be taken apart wherever it is used.
 fn fault_line<'a>(writer: &mut Writer<'a>, says: Result<usize, Fault>)
     ensures holds { (b t : List ℕ) → Holds b t writer.old → Holds b (t ++ fault_text says) writer.new }
     ensures kept { writer.new.out.ghost_name ≡ writer.old.out.ghost_name }
@@ -93,6 +94,7 @@ pub fn edges(input: &[u8], out: &mut [u8]) -> usize
     if input.len() > MOST {
         return tell(out, &[], Err(Fault::from(Refusal::LongInput)));
     }
+    // Fixed memory, likewise.
     let mut answers = [0u8; RECORDS];
     let says = run(input, &mut answers);
     let letters = &mut answers[..taken(says)];

@@ -34,7 +34,8 @@ impl Got {
 }
 
 impl Page {
-    // `at` and `last` travel together only until a page is made, which then holds them: a struct of them is no plainer.
+    // `target`, `start`, `at` and `last` travel together only until a page is made, which then holds them: a struct of them
+    // is no plainer.
     pub(crate) fn new(target: Target, wel: bool, start: u32, at: u8, last: u8) -> Page
         ensures { result ≡ empty target wel start at last }
     {

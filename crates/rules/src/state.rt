@@ -108,7 +108,7 @@ pub enum Phase {
     Input(Page),
 }
 
-// A write that waits for its cycle to end.
+// A write that waits for its cycle to end; its bytes are fixed memory too.
 #[derive(Clone, Copy)]
 pub struct Pending {
     pub target: Target,
