@@ -113,16 +113,6 @@ unfit_stand p birth r e h x =
     let same = unfit_history p r (born p birth) e h in
     (same, ap (λ v. (outcome p v x).says) same ∙ (unfit_call p r (born p birth) e x).1)
 
--- ---- refused calls
-
-pub refused_event_stands : RefusedEventStands
-refused_event_stands p v k l e says = by (unfit p v.cells) (step p v k l) says
-  where
-    by : (o : Option Refusal) (d : Done) → (call.unless o v (call.one_event v d)).says ≡ Err e → (call.unless o v (call.one_event v d)).view ≡ v
-    by (Some r) d q = refl
-    by None (taken u) q = cc
-    by None (refused r) q = refl
-
 -- ---- sameness
 
 rest_shift : {p : Shape} {birth : List ℕ} {j : Journal} {v : View} → Tracks p birth j v → v.stretch ≡ Deselected → v.shift ≡ at_rest
