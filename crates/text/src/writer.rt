@@ -3,8 +3,6 @@
 ghost use Rattle.std.specs.Prelude.{◌≡◌, [], decimal};
 ghost use Rattle.text.specs.Writers.{Holds, Wrote};
 
-use itoa::Buffer;
-
 // No heap: the buffer is the caller's, and the place of the next byte stands beside it.
 #[derive(Drop)]
 pub struct Writer<'a> {
@@ -31,7 +29,8 @@ impl<'a> Writer<'a> {
     pub fn number(&mut self, n: usize)
         ensures { Wrote self.old (decimal n) self.new }
     {
-        self.bytes(Buffer::new().format(n).as_bytes());
+        let Writer { out, at } = self;
+        *at += crate::decimal(out, *at, n);
     }
 
     // How many bytes it wrote so far.
