@@ -10,6 +10,7 @@ use super::unit::Chip;
 use backing::fault::Fault;
 use backing::refusal::Refusal;
 use backing::row::Backing;
+use rules::query::runs;
 
 impl<'a, P: Part, B: Backing> Chip<'a, P, B> {
     // Copies a page of the array to the buffer, from place `at` on. No heap: the buffer is the caller's, as C has it.
@@ -24,7 +25,7 @@ impl<'a, P: Part, B: Backing> Chip<'a, P, B> {
         if buffer.len() < 256 || at > buffer.len() - 256 {
             return Err(Fault::from(Refusal::ShortBuffer));
         }
-        if self.unit.cycle.is_some() {
+        if runs(&self.unit.cycle) {
             return Err(Fault::from(Refusal::CycleRunning));
         }
         cells.fill(page * 256, &mut buffer[at..at + 256])?;

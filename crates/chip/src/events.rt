@@ -16,6 +16,7 @@ use rules::decode::refuse;
 use rules::instruct::judge;
 use rules::latch::aim;
 use rules::page::roll;
+use rules::query::runs;
 use rules::register::{push, push_address};
 use rules::state::{Event, Level, Phase, Shift};
 
@@ -25,12 +26,7 @@ impl Unit {
         ensures { result ≡ admitted (is_off self.now.stretch) self.now.pins (running self.now.cycle) (decoded kind level) }
     {
         let event = Event::try_from((kind, level))?;
-        refuse(
-            self.stretch.is_off(),
-            self.pins,
-            self.cycle.is_some(),
-            event,
-        )?;
+        refuse(self.stretch.is_off(), self.pins, runs(&self.cycle), event)?;
         Ok(event)
     }
 }
@@ -84,7 +80,7 @@ impl<'a, P: Part, B: Backing> Chip<'a, P, B> {
                     *n += 1;
                     *value = more;
                 } else {
-                    self.unit.stretch = judge(self.unit.cycle.is_some(), self.unit.wel, more);
+                    self.unit.stretch = judge(runs(&self.unit.cycle), self.unit.wel, more);
                 }
             }
             (Phase::Status(k), Event::Clock(true)) => {

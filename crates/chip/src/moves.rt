@@ -11,6 +11,7 @@ use super::places;
 use super::unit::Unit;
 use backing::fault::Fault;
 use backing::row::Backing;
+use rules::query::runs;
 use rules::shift::status_byte;
 use rules::state::{Phase, Shift, Target};
 
@@ -30,7 +31,7 @@ impl Unit {
         match self.stretch {
             Phase::Status(0) => {
                 let status = cells.first(Target::Status)?;
-                Ok(status_byte(status, self.wel, self.cycle.is_some()))
+                Ok(status_byte(status, self.wel, runs(&self.cycle)))
             }
             Phase::Output(region, address, 0) => cells.get(places::cell_of::<P>(region, address)),
             _ => Ok(0),

@@ -8,6 +8,7 @@ use super::part::Part;
 use super::unit::Chip;
 use backing::fault::Fault;
 use backing::row::Backing;
+use rules::query::runs;
 
 // How two fit chips compare.
 #[derive(Clone, Copy, Debug, PartialEq)]
@@ -34,7 +35,7 @@ pub fn same<'a, 'b, P: Part, A: Backing, B: Backing>(
     if !a.unit.stretch.is_off() || !b.unit.stretch.is_off() {
         return Ok(Comparison::Selected);
     }
-    if a.unit.cycle.is_some() || b.unit.cycle.is_some() {
+    if runs(&a.unit.cycle) || runs(&b.unit.cycle) {
         return Ok(Comparison::Running);
     }
     if a.unit.pins == b.unit.pins && a.unit.wel == b.unit.wel && first.same(&second)? {

@@ -12,6 +12,6 @@ returns-in_err-refuse c =
     let d = decoded c.args.kind c.args.level in
     let e : c.from_residual-in_err-refuse.result ≡ Err (raised c.in_err-refuse.field-0.0 0) = search rules in
     e
-    ∙ admitted_refusal c.is_off.result x c.is_some.result d c.in_ok-event.event c.in_err-refuse.field-0.0 c.in_ok-event.ensures c.in_err-refuse.ensures
-    ∙ ap (λ s. admitted s x c.is_some.result d) c.is_off.ensures
-    ∙ ap (λ r. admitted (is_off c.args.self.now.stretch) x r d) c.is_some.ensures
+    ∙ admitted_refusal c.is_off.result x c.runs.result d c.in_ok-event.event c.in_err-refuse.field-0.0 c.in_ok-event.ensures c.in_err-refuse.ensures
+    ∙ ap (λ s. admitted s x c.runs.result d) c.is_off.ensures
+    ∙ ap (λ r. admitted (is_off c.args.self.now.stretch) x r d) c.runs.ensures
