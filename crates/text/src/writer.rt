@@ -26,7 +26,7 @@ impl<'a> Writer<'a> {
         *at += crate::lay(out, *at, text);
     }
 
-    // Not by `bytes`: `decimal` lays the digits, so that its contract and its test hold what the programs print.
+    // Not by `bytes`: `decimal` lays the digits, so that its contract and its test hold them.
     pub fn number(&mut self, n: usize)
         ensures { Wrote self.old (decimal n) self.new }
     {
